@@ -1,0 +1,5 @@
+-- Laws of doubles, which every crate above cites, and what the proofs of more than one function use.
+pub mod Finite
+pub mod Grid
+pub mod Order
+pub mod Sorts

@@ -1,0 +1,3 @@
+pub mod Vec
+pub mod Count
+pub mod Buffer
