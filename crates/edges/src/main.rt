@@ -11,7 +11,8 @@ fn root(name: &[u8], bits: u64) {
         double::Decoded::Finite(x) => print_hex(1, double::to_bits(sqrt::sqrt(x)), 16),
         double::Decoded::Infinite(_) => write_all(1, b"infinite"),
         double::Decoded::NotANumber => write_all(1, b"not a number"),
-    };
+    }
+    ;
     write_all(1, b"\n");
 }
 
