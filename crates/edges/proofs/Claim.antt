@@ -1,7 +1,9 @@
--- Every row of the table holds, by computing. Assumes nothing.
+-- Every row of the table holds. Assumes nothing.
 use mathlib.Core.Path.{refl}
 use lib.Ieee.{toBits}
 use Rattle.sqrt.specs.Root.{root}
+use Rattle.graph.proofs.Edges.{edge-row}
+use Rattle.system.proofs.Edges.{faint-mean, faint-right}
 use Rattle.edges.specs.Edges.{Edges}
 
 pub edges : Edges
@@ -9,4 +11,8 @@ unfolding root toBits
 edges = record {
   root-of-least = refl;
   root-of-two = refl;
+  not-connected = edge-row .0;
+  labels = (edge-row .1, edge-row .2, edge-row .3);
+  faint-mean = faint-mean;
+  faint-right = faint-right;
 }

@@ -2,12 +2,28 @@
 -- The claim that all of them hold is `edges` of proofs/Claim.
 use mathlib.Core.Path.{_≡_}
 use mathlib.Core.Bool.{false}
+use mathlib.Core.List.{[], _∷_}
 use Prim.Native.Nat.{ℕ}
 use lib.IntN.{pos, negsuc}
 use lib.Ieee.{fin, binary64, toBits, ofBits}
+use Rattle.field.specs.Vec.{null, origin}
 use Rattle.sqrt.specs.Root.{root}
+use Rattle.network.specs.Network.{Graph, shape, graph}
+use Rattle.graph.specs.Joined.{Connected, Label}
+use Rattle.system.specs.System.{tiny, one, meanOffset, terms, termAt}
+use Rattle.system.specs.Edges.{single, minusTiny}
+
+-- n=3, direction 0-1 weight 1, 1-2 weight 0
+abbrev pub twoParts : Graph
+twoParts = graph (shape 3 0 0 2) (0 ∷ 1 ∷ 1 ∷ 2 ∷ []) (one ∷ null ∷ [])
 
 pub record Edges : Type 0 where
   -- Root of 2^-1074 is 2^-537; of 2 has bits 3FF6A09E667F3BCD.
   pub root-of-least : root binary64 (fin false 1 (negsuc 1073)) ≡ fin false 1 (negsuc 536)
   pub root-of-two : toBits binary64 (root binary64 (fin false 1 (pos 1))) ≡ 0x3FF6_A09E_667F_3BCD
+  -- n=3, direction 0-1 weight 1, 1-2 weight 0: not connected, labels 0 0 2.
+  pub not-connected : Connected twoParts → ⊥
+  pub labels : Label twoParts 0 0 × Label twoParts 1 0 × Label twoParts 2 2
+  -- Weight 1e-12, scale 1: mean offset zero, yet assembled; right side z is -1e-12.
+  pub faint-mean : meanOffset (single tiny one) 0 ≡ origin
+  pub faint-right : termAt (terms (single tiny one)) 0 .right .z ≡ minusTiny

@@ -16,6 +16,41 @@ fn root(name: &[u8], bits: u64) {
     write_all(1, b"\n");
 }
 
+fn number(x: usize) {
+    write_all(1, b" ");
+    io::print_decimal(1, x as u64);
+}
+
+// n=3, direction 0-1 weight 1, 1-2 weight 0.
+fn two_parts() {
+    let mut nodes = [0usize; 3];
+    let mut labels = [9usize; 3];
+    match graph::is_connected(3, 0, 0, 2, &[0usize, 1, 1, 2], &[1.0, 0.0], &mut nodes) {
+        graph::Connectivity::Refused(_) => write_all(1, b"refused"),
+        graph::Connectivity::Connected => write_all(1, b"connected"),
+        graph::Connectivity::Disconnected => write_all(1, b"not connected"),
+    }
+    ;
+    match graph::parts(
+        3,
+        0,
+        0,
+        2,
+        &[0usize, 1, 1, 2],
+        &[1.0, 0.0],
+        &mut nodes,
+        &mut labels,
+    ) {
+        graph::Listing::Refused(_) => write_all(1, b", refused"),
+        graph::Listing::Parts(_) => write_all(1, b", labels"),
+    }
+    ;
+    number(labels[0]);
+    number(labels[1]);
+    number(labels[2]);
+    write_all(1, b"\n");
+}
+
 fn main() {
     root(b"2^-1074", 1);
     root(b"2", 0x4000_0000_0000_0000);
@@ -24,4 +59,5 @@ fn main() {
     root(b"the largest double", 0x7fef_ffff_ffff_ffff);
     root(b"infinity", 0x7ff0_0000_0000_0000);
     root(b"a signalling NaN", 0xfff0_0000_0000_0001);
+    two_parts();
 }

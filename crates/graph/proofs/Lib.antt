@@ -1,0 +1,7 @@
+-- Laws that belong to no one function.
+pub mod Walks
+pub mod Forests
+pub mod Spanning
+pub mod Counts
+pub mod Outcomes
+pub mod Edges

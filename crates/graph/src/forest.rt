@@ -1,0 +1,96 @@
+// Parent lists: trees of nodes. A parent is never a greater number than its node, and a root is its own parent.
+ghost use mathlib.Core.Path.{_≡_};
+ghost use Prim.Native.Nat.{_≤_, _<_};
+ghost use lib.ListN.{length, replicate};
+ghost use Rattle.field.specs.Count.{field};
+ghost use Rattle.graph.specs.Distinct.{distinct};
+ghost use Rattle.graph.specs.Forest.{Forest, Alone, RootsZero, rootOf, Climbed, Merged, Decides};
+
+// The root of a node. On the way each node gets its parent's parent, which shortens the next climb.
+pub(crate) fn root(parents: &mut [usize], node: usize) -> usize
+    requires { ⌜ Forest (now parents) ⌝ }
+    requires { ⌜ node < length (now parents) ⌝ }
+    ensures { λ r. ⌜ Climbed (now (parents .entry)) node r (now (parents .exit)) ⌝ }
+{
+    let up = parents[node];
+    if up == node {
+        node
+    } else {
+        let next = parents[up];
+        parents[node] = next;
+        root(parents, next)
+    }
+}
+
+// Makes the trees of two nodes one, under the lower of the two roots.
+pub(crate) fn join(parents: &mut [usize], a: usize, b: usize)
+    requires { ⌜ Forest (now parents) ⌝ }
+    requires { ⌜ (a < length (now parents)) × (b < length (now parents)) ⌝ }
+    ensures { λ r. ⌜ Merged (now (parents .entry)) (now (parents .exit)) a b ⌝ }
+{
+    let u = root(parents, a);
+    let v = root(parents, b);
+    if u < v {
+        parents[v] = u;
+    } else {
+        parents[u] = v;
+    }
+}
+
+// Each node its own parent.
+pub(crate) fn start(parents: &mut [usize])
+    ensures { λ r. ⌜ Alone (now (parents .exit)) ⌝ }
+{
+    let mut i = 0usize;
+    while i < parents.len() {
+        parents[i] = i;
+        i += 1;
+    }
+}
+
+// Whether each of n cameras has camera 0 as its root.
+pub(crate) fn all_under_zero(n: usize, parents: &mut [usize]) -> bool
+    requires { ⌜ Forest (now parents) ⌝ }
+    requires { ⌜ n ≤ length (now parents) ⌝ }
+    ensures { λ r. ⌜ Decides r (RootsZero (now (parents .entry)) n) ⌝ }
+{
+    let mut c = 0usize;
+    while c < n {
+        if root(parents, c) != 0 {
+            return false;
+        }
+        c += 1;
+    }
+    true
+}
+
+// Labels each camera with its root, and counts the cameras that are their own label.
+pub(crate) fn list_labels(parents: &mut [usize], labels: &mut [usize]) -> usize
+    requires { ⌜ Forest (now parents) ⌝ }
+    requires { ⌜ length (now labels) ≤ length (now parents) ⌝ }
+    ensures { λ r. ⌜ now (labels .exit) ≡ field (length (now (labels .entry))) (rootOf (now (parents .entry))) ⌝ }
+    ensures { λ r. ⌜ r ≡ distinct (now (labels .exit)) ⌝ }
+{
+    let mut count = 0usize;
+    let mut c = 0usize;
+    while c < labels.len() {
+        let label = root(parents, c);
+        labels[c] = label;
+        if label == c {
+            count += 1;
+        }
+        c += 1;
+    }
+    count
+}
+
+// Zeros throughout.
+pub(crate) fn clear(nodes: &mut [usize])
+    ensures { λ r. ⌜ now (nodes .exit) ≡ replicate (length (now (nodes .entry))) 0 ⌝ }
+{
+    let mut i = 0usize;
+    while i < nodes.len() {
+        nodes[i] = 0;
+        i += 1;
+    }
+}

@@ -1,0 +1,4 @@
+pub mod Verdicts
+pub mod Sections
+pub mod PointLists
+pub mod Sound

@@ -1,0 +1,4 @@
+pub mod Network
+pub mod Lists
+pub mod Refusals
+pub mod Sound

@@ -1,0 +1,188 @@
+-- Refusals 1 to 8 (document 01, 'Refused calls'): tested in number order, each at its lowest place.
+use Prim.Native.Nat.{ℕ, _+_, _-_, _*_}
+use mathlib.Core.List.{List, [], _∷_, _++_}
+use mathlib.Core.Bool.{Bool, cond, not, _&&_, _||_}
+use lib.ListN.{length, getD}
+use lib.Dec.{eqb, ltb, leb}
+use lib.Ieee.{Float, nan, lt}
+use lib.Ieee.Scale.{finite}
+use Rattle.field.specs.declared.Vec3.{Vec3}
+use Rattle.field.specs.declared.Place.{Place}
+use Rattle.field.specs.declared.Place.the-variants.{At, Nowhere}
+use Rattle.field.specs.Vec.{null}
+use Rattle.field.specs.Count.{lowest, orElse, shift}
+use Rattle.field.specs.Buffer.{get, vector}
+use Rattle.network.specs.declared.Refusal.{Refusal}
+use Rattle.network.specs.declared.Verdict.{Verdict}
+use Rattle.network.specs.declared.Verdict.the-variants.{Refused, Passed}
+use Rattle.network.specs.declared.Length.{Length}
+use Rattle.network.specs.declared.Length.the-variants.{Refused as NoLength, Of}
+use Rattle.network.specs.Network.{Shape, Graph, Network, rows}
+use Rattle.network.specs.Lists.{listsHold}
+
+-- ---- tests in order
+
+abbrev pub refuse : ℕ → ℕ → Verdict
+refuse k p = Refused (record { number = k; place = p })
+
+-- number k at place 0, where b holds
+unfoldable pub test : ℕ → Bool → Verdict
+test k b = cond b (refuse k 0) Passed
+
+-- number k at a place, where there is one
+unfoldable pub testAt : ℕ → Place → Verdict
+testAt k (At r) = refuse k r
+testAt k Nowhere = Passed
+
+-- one verdict, and where it passes the next
+unfoldable pub andThen : Verdict → Verdict → Verdict
+andThen (Refused r) w = Refused r
+andThen Passed w = w
+
+-- the first refusal of tests that are made in this order
+unfoldable pub verdict : List Verdict → Verdict
+verdict [] = Passed
+verdict (v ∷ vs) = andThen v (verdict vs)
+
+-- ---- places that are counted through
+
+-- things of one kind, and which of them are bad
+pub record Section : Type 0 where
+  pub count : ℕ
+  pub bad : ℕ → Bool
+
+abbrev pub section : ℕ → (ℕ → Bool) → Section
+section n p = record { count = n; bad = p }
+
+-- the lowest bad place, counted through sections that follow one another
+unfoldable pub running : List Section → Place
+running [] = Nowhere
+running (s ∷ ss) = orElse (lowest (s .bad) (s .count)) (shift (s .count) (running ss))
+
+-- ---- 1 and 2: the counts
+
+-- n is 0 or over 4,096
+unfoldable pub badCameras : Shape → Bool
+badCameras s = eqb (s .cameras) 0 || ltb 4096 (s .cameras)
+
+-- m, B or E over its limit
+unfoldable pub badCounts : Shape → Bool
+badCounts s = ltb 65536 (s .points) || (ltb 262144 (s .bearings) || ltb 65536 (s .directions))
+
+unfoldable pub countTests : Shape → List Verdict
+countTests s = test 1 (badCameras s) ∷ test 2 (badCounts s) ∷ []
+
+-- ---- 3: the lengths that a call's slices must have
+
+-- of r rows, their ends and weights
+unfoldable pub endsFit : ℕ → List ℕ → List Float → Bool
+endsFit r ends weights = eqb (length ends) (2 * r) && eqb (length weights) r
+
+-- of r rows, their rays and scales
+unfoldable pub raysFit : ℕ → List Float → List Float → Bool
+raysFit r rays scales = eqb (length rays) (3 * r) && eqb (length scales) r
+
+-- of m points, their positions and the lists that name b bearings
+unfoldable pub pointsFit : ℕ → ℕ → List Float → List ℕ → List ℕ → Bool
+pointsFit m b positions offsets listed =
+    eqb (length positions) (3 * m) && (eqb (length offsets) (m + 1) && eqb (length listed) b)
+
+abbrev pub graphFits : Graph → Bool
+graphFits g = endsFit (rows (g .shape)) (g .ends) (g .weights)
+
+abbrev pub networkFits : Network → Bool
+networkFits net =
+    let s = net .graph .shape in
+    graphFits (net .graph)
+    && (raysFit (rows s) (net .rays) (net .scales)
+    && pointsFit (s .points) (s .bearings) (net .positions) (net .offsets) (net .listed))
+
+-- ---- 4 and 5: the rows' ends
+
+-- of n cameras, m points and b bearings, row r has a camera or point number out of range
+unfoldable pub strays : ℕ → ℕ → ℕ → List ℕ → ℕ → Bool
+strays n m b ends r = leb n (getD ends (2 * r) 0) || leb (cond (ltb r b) m n) (getD ends (2 * r + 1) 0)
+
+-- row r is a direction with source = target
+unfoldable pub loops : ℕ → List ℕ → ℕ → Bool
+loops b ends r = leb b r && eqb (getD ends (2 * r) 0) (getD ends (2 * r + 1) 0)
+
+unfoldable pub endTests : Shape → List ℕ → List Verdict
+endTests s ends =
+    testAt 4 (lowest (strays (s .cameras) (s .points) (s .bearings) ends) (rows s))
+    ∷ testAt 5 (lowest (loops (s .bearings) ends) (rows s))
+    ∷ []
+
+-- ---- 7: the domain
+
+-- a weight that is not finite, or below zero (-0.0 is not)
+unfoldable pub badWeight : List Float → ℕ → Bool
+badWeight weights r = not (finite (getD weights r nan)) || lt (getD weights r nan) null
+
+-- a scale that is not finite, or not above zero
+unfoldable pub badScale : List Float → ℕ → Bool
+badScale scales r = not (finite (getD scales r nan)) || not (lt null (getD scales r nan))
+
+unfoldable pub isFinite : Vec3 → Bool
+isFinite v = finite (v .x) && (finite (v .y) && finite (v .z))
+
+-- vector i of a list of them is not finite
+unfoldable pub badVector : List Float → ℕ → Bool
+badVector l i = not (isFinite (get vector l (3 * i)))
+
+unfoldable pub badRow : List Float → List Float → List Float → ℕ → Bool
+badRow weights scales rays r = badWeight weights r || (badScale scales r || badVector rays r)
+
+-- rows and old points are counted through; a call that is lent camera positions adds their section
+abbrev pub rowSections : Network → List Section
+rowSections net =
+    let s = net .graph .shape in
+    section (rows s) (badRow (net .graph .weights) (net .scales) (net .rays)) ∷ section (s .points) (badVector (net .positions)) ∷ []
+
+-- ---- 8: the route, and the work buffer that it needs
+
+-- route not 1..3 or dense limit over 256
+unfoldable pub badRoute : ℕ → ℕ → Bool
+badRoute route limit = ltb route 1 || (ltb 3 route || ltb 256 limit)
+
+-- d: n - 1 where the route may go dense within the limit, else 0; 0 too where 8 would refuse
+unfoldable pub denseRows : ℕ → ℕ → ℕ → ℕ
+denseRows n route limit = cond (badRoute route limit || (eqb route 2 || ltb limit (n - 1))) 0 (n - 1)
+
+-- T = 23n + 4m + B + E + d² + 3d
+unfoldable pub workLength : Shape → ℕ → ℕ → ℕ
+workLength s route limit =
+    let d = denseRows (s .cameras) route limit in
+    23 * s .cameras + 4 * s .points + s .bearings + s .directions + d * d + 3 * d
+
+-- ---- each kind of call
+
+-- connectivity and parts listing: 1 to 5 and the weight part of 7. `fit` says that the lengths of the call's other buffers fit.
+unfoldable pub graphTests : Graph → Bool → List Verdict
+graphTests g fit =
+    countTests (g .shape)
+    ++ (test 3 (not (graphFits g && fit)) ∷ [])
+    ++ endTests (g .shape) (g .ends)
+    ++ (testAt 7 (lowest (badWeight (g .weights)) (rows (g .shape))) ∷ [])
+
+-- dots and scales: 1 to 7, with the sections of camera positions that they are lent
+unfoldable pub stepTests : Network → List Section → Bool → List Verdict
+stepTests net cameras fit =
+    let s = net .graph .shape in
+    countTests s
+    ++ (test 3 (not (networkFits net && fit)) ∷ [])
+    ++ endTests s (net .graph .ends)
+    ++ (test 6 (not (listsHold (s .points) (s .bearings) (net .graph .ends) (net .offsets) (net .listed))) ∷ [])
+    ++ (testAt 7 (running (rowSections net ++ cameras)) ∷ [])
+
+-- solve: 1 to 8
+unfoldable pub solveTests : Network → Bool → ℕ → ℕ → List Verdict
+solveTests net fit route limit = stepTests net [] fit ++ (test 8 (badRoute route limit) ∷ [])
+
+-- the length of the work buffer that a solve needs, where 1 and 2 pass
+abbrev pub lengthIf : Verdict → ℕ → Length
+lengthIf (Refused r) t = NoLength r
+lengthIf Passed t = Of t
+
+unfoldable pub lengthOf : Shape → ℕ → ℕ → Length
+lengthOf s route limit = lengthIf (verdict (countTests s)) (workLength s route limit)

@@ -1,0 +1,137 @@
+// 7: the domain.
+use crate::answers::both;
+use crate::answers::either;
+use double::is_finite;
+use field::Place;
+use field::Vec3;
+use field::get3;
+ghost use mathlib.Core.Path.{_≡_};
+ghost use Prim.Native.Nat.{_+_, _*_, _<_, _≤_};
+ghost use lib.ListN.{length};
+ghost use mathlib.Core.List.{[], _∷_};
+ghost use Rattle.field.specs.Count.{lowest};
+ghost use Rattle.network.specs.Refusals.{section, running, badWeight, badScale, isFinite, badVector, badRow};
+
+// The weight of row r is not finite, or below zero.
+fn bad_weight_at(weights: &[f64], r: usize) -> bool
+    requires { ⌜ r < length (now weights) ⌝ }
+    ensures { λ x. ⌜ x ≡ badWeight (now (weights .entry)) r ⌝ }
+{
+    let w = weights[r];
+    either(!is_finite(w), w < 0.0)
+}
+
+// The lowest of `count` rows whose weight is outside the domain.
+pub(crate) fn find_bad_weight(weights: &[f64], count: usize) -> Place
+    requires { ⌜ count ≤ length (now weights) ⌝ }
+    ensures { λ r. ⌜ r ≡ lowest (badWeight (now (weights .entry))) count ⌝ }
+{
+    let mut r = 0usize;
+    while r < count {
+        if bad_weight_at(weights, r) {
+            return Place::At(r);
+        }
+        r += 1;
+    }
+    Place::Nowhere
+}
+
+// The scale of row r is not finite, or not above zero.
+fn bad_scale_at(scales: &[f64], r: usize) -> bool
+    requires { ⌜ r < length (now scales) ⌝ }
+    ensures { λ x. ⌜ x ≡ badScale (now (scales .entry)) r ⌝ }
+{
+    let s = scales[r];
+    either(!is_finite(s), !(0.0 < s))
+}
+
+fn all_finite(v: Vec3) -> bool
+    ensures { λ x. ⌜ x ≡ isFinite v ⌝ }
+{
+    both(is_finite(v.x), both(is_finite(v.y), is_finite(v.z)))
+}
+
+// Vector i of a slice of them is not finite.
+fn bad_vector_at(s: &[f64], i: usize) -> bool
+    requires { ⌜ 3 * i + 3 ≤ length (now s) ⌝ }
+    ensures { λ x. ⌜ x ≡ badVector (now (s .entry)) i ⌝ }
+{
+    !all_finite(get3(s, 3 * i))
+}
+
+// The lowest of `count` vectors that is not finite.
+pub fn find_bad_vector(s: &[f64], count: usize) -> Place
+    requires { ⌜ 3 * count ≤ length (now s) ⌝ }
+    ensures { λ r. ⌜ r ≡ lowest (badVector (now (s .entry))) count ⌝ }
+{
+    let mut i = 0usize;
+    while i < count {
+        if bad_vector_at(s, i) {
+            return Place::At(i);
+        }
+        i += 1;
+    }
+    Place::Nowhere
+}
+
+// The weight, scale or ray of row r is outside the domain.
+fn bad_row_at(weights: &[f64], scales: &[f64], rays: &[f64], r: usize) -> bool
+    requires { ⌜ r < length (now weights) ⌝ }
+    requires { ⌜ r < length (now scales) ⌝ }
+    requires { ⌜ 3 * r + 3 ≤ length (now rays) ⌝ }
+    ensures { λ x. ⌜ x ≡ badRow (now (weights .entry)) (now (scales .entry)) (now (rays .entry)) r ⌝ }
+{
+    either(
+        bad_weight_at(weights, r),
+        either(bad_scale_at(scales, r), bad_vector_at(rays, r)),
+    )
+}
+
+// The lowest of `count` rows that is outside the domain.
+fn find_bad_row(weights: &[f64], scales: &[f64], rays: &[f64], count: usize) -> Place
+    requires { ⌜ count ≤ length (now weights) ⌝ }
+    requires { ⌜ count ≤ length (now scales) ⌝ }
+    requires { ⌜ 3 * count ≤ length (now rays) ⌝ }
+    ensures { λ x. ⌜ x ≡ lowest (badRow (now (weights .entry)) (now (scales .entry)) (now (rays .entry))) count ⌝ }
+{
+    let mut r = 0usize;
+    while r < count {
+        if bad_row_at(weights, scales, rays, r) {
+            return Place::At(r);
+        }
+        r += 1;
+    }
+    Place::Nowhere
+}
+
+// The lowest place outside the domain, counted through `count` rows, m points and k camera positions.
+pub(crate) fn find_outside(
+    count: usize,
+    rays: &[f64],
+    weights: &[f64],
+    scales: &[f64],
+    m: usize,
+    points: &[f64],
+    k: usize,
+    cameras: &[f64],
+) -> Place
+    requires { ⌜ (length (now weights) ≡ count) × (length (now scales) ≡ count) × (length (now rays) ≡ 3 * count) ⌝ }
+    requires { ⌜ length (now points) ≡ 3 * m ⌝ }
+    requires { ⌜ length (now cameras) ≡ 3 * k ⌝ }
+    requires { ⌜ (count ≤ 327680) × (m ≤ 65536) × (k ≤ 4096) ⌝ }
+    ensures { λ r. ⌜ r ≡ running (section count (badRow (now (weights .entry)) (now (scales .entry)) (now (rays .entry))) ∷ section m (badVector (now (points .entry))) ∷ section k (badVector (now (cameras .entry))) ∷ []) ⌝ }
+{
+    let row = find_bad_row(weights, scales, rays, count);
+    if let Place::At(r) = row {
+        return Place::At(r);
+    }
+    let point = find_bad_vector(points, m);
+    if let Place::At(p) = point {
+        return Place::At(count + p);
+    }
+    let camera = find_bad_vector(cameras, k);
+    if let Place::At(i) = camera {
+        return Place::At(count + (m + i));
+    }
+    Place::Nowhere
+}

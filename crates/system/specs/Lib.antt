@@ -1,0 +1,4 @@
+pub mod System
+pub mod Work
+pub mod Formed
+pub mod Edges
