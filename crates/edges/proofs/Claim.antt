@@ -4,6 +4,7 @@ use lib.Ieee.{toBits}
 use Rattle.sqrt.specs.Root.{root}
 use Rattle.graph.proofs.Edges.{edge-row}
 use Rattle.system.proofs.Edges.{faint-mean, faint-right}
+use Rattle.recover.proofs.Edges.{recover-edges}
 use Rattle.edges.specs.Edges.{Edges}
 
 pub edges : Edges
@@ -15,4 +16,5 @@ edges = record {
   labels = (edge-row .1, edge-row .2, edge-row .3);
   faint-mean = faint-mean;
   faint-right = faint-right;
+  recovered = recover-edges;
 }

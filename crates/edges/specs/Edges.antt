@@ -12,6 +12,7 @@ use Rattle.network.specs.Network.{Graph, shape, graph}
 use Rattle.graph.specs.Joined.{Connected, Label}
 use Rattle.system.specs.System.{tiny, one, meanOffset, terms, termAt}
 use Rattle.system.specs.Edges.{single, minusTiny}
+use Rattle.recover.specs.Edges.{RecoverEdges}
 
 -- n=3, direction 0-1 weight 1, 1-2 weight 0
 abbrev pub twoParts : Graph
@@ -27,3 +28,5 @@ pub record Edges : Type 0 where
   -- Weight 1e-12, scale 1: mean offset zero, yet assembled; right side z is -1e-12.
   pub faint-mean : meanOffset (single tiny one) 0 ≡ origin
   pub faint-right : termAt (terms (single tiny one)) 0 .right .z ≡ minusTiny
+  -- Scales: target x = 2 gives 0.5; -2 gives 1e-5; 2^-20 keeps; 2^-19 gives 524288. Points: (0,0,2); weight 0 keeps (5,5,5); weight 1e-12 gives (0,0,1).
+  pub recovered : RecoverEdges

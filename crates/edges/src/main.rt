@@ -51,6 +51,43 @@ fn two_parts() {
     write_all(1, b"\n");
 }
 
+// Cameras (0,0,0) and (x,0,0), direction (1,0,0), weight 1, old scale 1.
+fn scale(name: &[u8], x: f64) {
+    let mut out = [0.0];
+    write_all(1, b"scale with target x = ");
+    write_all(1, name);
+    write_all(1, b": ");
+    match recover::scales(
+        2,
+        0,
+        0,
+        1,
+        &[0usize, 1],
+        &[1.0, 0.0, 0.0],
+        &[1.0],
+        &[1.0],
+        &[0.0f64; 0],
+        &[0usize],
+        &[0usize; 0],
+        &[0.0, 0.0, 0.0, x, 0.0, 0.0],
+        &[0.0f64; 6],
+        false,
+        &mut out,
+    ) {
+        network::Verdict::Refused(_) => write_all(1, b"refused"),
+        network::Verdict::Passed => print_hex(1, double::to_bits(out[0]), 16),
+    }
+    ;
+    write_all(1, b"\n");
+}
+
+fn scales() {
+    scale(b"2", 2.0);
+    scale(b"-2", -2.0);
+    scale(b"2^-20", 0.00000095367431640625);
+    scale(b"2^-19", 0.0000019073486328125);
+}
+
 fn main() {
     root(b"2^-1074", 1);
     root(b"2", 0x4000_0000_0000_0000);
@@ -60,4 +97,5 @@ fn main() {
     root(b"infinity", 0x7ff0_0000_0000_0000);
     root(b"a signalling NaN", 0xfff0_0000_0000_0001);
     two_parts();
+    scales();
 }

@@ -1,0 +1,60 @@
+-- What a call of dots or scales is lent, and what it leaves (document 01: 'dots and scales fill B, then E numbers'; they use 1 to 7).
+use Prim.Native.Nat.{ℕ, _*_}
+use mathlib.Core.List.{List, [], _∷_}
+use mathlib.Core.Bool.{Bool, _&&_}
+use mathlib.Core.Path.{_≡_}
+use lib.ListN.{length}
+use lib.Dec.{eqb}
+use lib.Ieee.{Float}
+use Rattle.field.specs.declared.Vec3.{Vec3}
+use Rattle.field.specs.Buffer.{load, vector}
+use Rattle.network.specs.declared.Verdict.{Verdict}
+use Rattle.network.specs.declared.Verdict.the-variants.{Refused, Passed}
+use Rattle.network.specs.Network.{Network, rows}
+use Rattle.network.specs.Refusals.{verdict, stepTests, section, badVector}
+use Rattle.recover.specs.Part.{marked}
+use Rattle.recover.specs.Recover.{dotsOf, scalesOf}
+
+-- the network, both camera buffers with the mark, and the length of the output
+pub record Placed : Type 0 where
+  pub net : Network
+  pub current : List Float
+  pub trial : List Float
+  pub mark : Bool
+  pub room : ℕ
+
+abbrev pub placed : Network → List Float → List Float → Bool → ℕ → Placed
+placed net current trial mark room = record { net = net; current = current; trial = trial; mark = mark; room = room }
+
+-- the buffer that the mark names, and the cameras that it holds
+abbrev pub chosen : Placed → List Float
+chosen i = marked (i .current) (i .trial) (i .mark)
+
+abbrev pub camerasOf : Placed → List Vec3
+camerasOf i = load vector (chosen i) 0 (i .net .graph .shape .cameras)
+
+-- both camera buffers hold 3n numbers, and the output B + E
+abbrev pub buffersFit : Placed → Bool
+buffersFit i =
+    let n = i .net .graph .shape .cameras in
+    eqb (length (i .current)) (3 * n) && (eqb (length (i .trial)) (3 * n) && eqb (i .room) (rows (i .net .graph .shape)))
+
+-- 3 tests the buffers too; 7 tests the marked cameras after the points.
+unfoldable pub placedVerdict : Placed → Verdict
+placedVerdict i = verdict (stepTests (i .net) (section (i .net .graph .shape .cameras) (badVector (chosen i)) ∷ []) (buffersFit i))
+
+-- the output: untouched on a refusal, else filled whole
+abbrev pub filled : Verdict → List Float → List Float → List Float
+filled (Refused r) out xs = out
+filled Passed out xs = xs
+
+-- What the call leaves: its answer, and its output; everything else is only read.
+pub record Filled (i : Placed) (xs : List Float) (r : Verdict) (out out' : List Float) : Type 0 where
+  pub answer : r ≡ placedVerdict i
+  pub output : out' ≡ filled (placedVerdict i) out xs
+
+abbrev pub DotsFilled : Placed → Verdict → List Float → List Float → Type 0
+DotsFilled i r out out' = Filled i (dotsOf (i .net) (camerasOf i)) r out out'
+
+abbrev pub ScalesFilled : Placed → Verdict → List Float → List Float → Type 0
+ScalesFilled i r out out' = Filled i (scalesOf (i .net) (camerasOf i)) r out out'
