@@ -1,6 +1,6 @@
 -- Refusal 6 (document 01, 'Size and domain'): 'Point lists (m+1 offsets from 0 to B, never falling, and B row numbers) name every bearing once,
 -- under its own point, ascending within a point.'
-use Prim.Native.Nat.{ℕ, zero, suc, _+_, _-_, _*_}
+use Prim.Native.Nat.{ℕ, zero, suc, _+_, _-_}
 use mathlib.Core.List.{List}
 use mathlib.Core.Bool.{Bool, true, false, cond, not, _&&_, _||_}
 use lib.ListN.{getD}
@@ -8,6 +8,7 @@ use lib.Dec.{eqb, ltb, leb}
 use Rattle.field.specs.declared.Place.{Place}
 use Rattle.field.specs.declared.Place.the-variants.{At, Nowhere}
 use Rattle.field.specs.Count.{lowest}
+use Rattle.network.specs.Network.{secondEnd}
 
 abbrev pub absent : Place → Bool
 absent (At i) = false
@@ -30,7 +31,7 @@ offsetsRise m b offsets = eqb (getD offsets 0 0) 0 && (eqb (getD offsets m 0) b 
 unfoldable pub misplaced : ℕ → List ℕ → List ℕ → ℕ → ℕ → ℕ → Bool
 misplaced b ends listed p start i =
     let row = getD listed (start + i) 0 in
-    leb b row || (not (eqb (getD ends (2 * row + 1) 0) p) || (ltb 0 i && leb row (getD listed (start + i - 1) 0)))
+    leb b row || (not (eqb (secondEnd ends row) p) || (ltb 0 i && leb row (getD listed (start + i - 1) 0)))
 
 -- point p's list, from offset p up to offset p + 1, has a row that is misplaced
 unfoldable pub disordered : ℕ → List ℕ → List ℕ → List ℕ → ℕ → Bool

@@ -17,7 +17,7 @@ use Rattle.network.specs.declared.Verdict.{Verdict}
 use Rattle.network.specs.declared.Verdict.the-variants.{Refused, Passed}
 use Rattle.network.specs.declared.Length.{Length}
 use Rattle.network.specs.declared.Length.the-variants.{Refused as NoLength, Of}
-use Rattle.network.specs.Network.{Shape, Graph, Network, rows}
+use Rattle.network.specs.Network.{Shape, Graph, Network, rows, firstEnd, secondEnd}
 use Rattle.network.specs.Lists.{listsHold}
 
 -- ---- tests in order
@@ -101,11 +101,11 @@ networkFits net =
 
 -- of n cameras, m points and b bearings, row r has a camera or point number out of range
 unfoldable pub strays : ℕ → ℕ → ℕ → List ℕ → ℕ → Bool
-strays n m b ends r = leb n (getD ends (2 * r) 0) || leb (cond (ltb r b) m n) (getD ends (2 * r + 1) 0)
+strays n m b ends r = leb n (firstEnd ends r) || leb (cond (ltb r b) m n) (secondEnd ends r)
 
 -- row r is a direction with source = target
 unfoldable pub loops : ℕ → List ℕ → ℕ → Bool
-loops b ends r = leb b r && eqb (getD ends (2 * r) 0) (getD ends (2 * r + 1) 0)
+loops b ends r = leb b r && eqb (firstEnd ends r) (secondEnd ends r)
 
 unfoldable pub endTests : Shape → List ℕ → List Verdict
 endTests s ends =

@@ -7,26 +7,26 @@ ghost use mathlib.Core.Bool.{cond, _&&_, _||_};
 ghost use Rattle.network.specs.Lists.{absent};
 ghost use Rattle.network.specs.Refusals.{test, testAt};
 
-pub(crate) fn both(a: bool, b: bool) -> bool
+pub fn both(a: bool, b: bool) -> bool
     ensures { λ r. ⌜ r ≡ a && b ⌝ }
 {
     if a { b } else { false }
 }
 
-pub(crate) fn either(a: bool, b: bool) -> bool
+pub fn either(a: bool, b: bool) -> bool
     ensures { λ r. ⌜ r ≡ a || b ⌝ }
 {
     if a { true } else { b }
 }
 
 // x where c holds, else y.
-pub(crate) fn choose(c: bool, x: usize, y: usize) -> usize
+pub fn choose(c: bool, x: usize, y: usize) -> usize
     ensures { λ r. ⌜ r ≡ cond c x y ⌝ }
 {
     if c { x } else { y }
 }
 
-pub(crate) fn is_nowhere(place: Place) -> bool
+pub fn is_nowhere(place: Place) -> bool
     ensures { λ r. ⌜ r ≡ absent place ⌝ }
 {
     match place {
@@ -36,7 +36,7 @@ pub(crate) fn is_nowhere(place: Place) -> bool
 }
 
 // Number k at place 0, where `bad` holds.
-pub(crate) fn refused_if(k: usize, bad: bool) -> Verdict
+pub fn refused_if(k: usize, bad: bool) -> Verdict
     ensures { λ r. ⌜ r ≡ test k bad ⌝ }
 {
     if bad {
@@ -49,7 +49,7 @@ pub(crate) fn refused_if(k: usize, bad: bool) -> Verdict
 }
 
 // Number k at the place, where there is one.
-pub(crate) fn refused_at(k: usize, place: Place) -> Verdict
+pub fn refused_at(k: usize, place: Place) -> Verdict
     ensures { λ r. ⌜ r ≡ testAt k place ⌝ }
 {
     match place {

@@ -105,7 +105,7 @@ fn find_bad_row(weights: &[f64], scales: &[f64], rays: &[f64], count: usize) -> 
 }
 
 // The lowest place outside the domain, counted through `count` rows, m points and k camera positions.
-pub(crate) fn find_outside(
+pub fn find_outside(
     count: usize,
     rays: &[f64],
     weights: &[f64],

@@ -59,7 +59,7 @@ fn find_loop(b: usize, count: usize, ends: &[usize]) -> Place
 }
 
 // 4 and 5.
-pub(crate) fn check_ends(n: usize, m: usize, b: usize, e: usize, ends: &[usize]) -> Verdict
+pub fn check_ends(n: usize, m: usize, b: usize, e: usize, ends: &[usize]) -> Verdict
     requires { ⌜ length (now ends) ≡ 2 * (b + e) ⌝ }
     ensures { λ r. ⌜ r ≡ verdict (endTests (shape n m b e) (now (ends .entry))) ⌝ }
 {

@@ -1,7 +1,7 @@
 // The network as it is lent, and refusals 1 to 8.
-mod answers;
+pub mod answers;
 pub mod domain;
-mod ends;
+pub mod ends;
 mod lengths;
 mod lists;
 mod route;
