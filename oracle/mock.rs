@@ -1,0 +1,138 @@
+//! A stand-in for the port's C functions, by which the comparison is tested: document 01's refusals, then the kernel `subject`
+//! (the oracle itself, or a changed copy of it).
+
+use rules::Refusal;
+use std::slice::{from_raw_parts, from_raw_parts_mut};
+
+/// Stores the place (in a report of length 3) and returns the number.
+fn refuse(report: &mut [usize], (number, place): Refusal) -> usize {
+    if report.len() == 3 {
+        report[0] = place;
+    }
+    number
+}
+
+macro_rules! shared {
+    ($($name:ident $len:ident),*) => { $(let $name = unsafe { from_raw_parts($name, $len) };)* };
+}
+
+macro_rules! lent {
+    ($($name:ident $len:ident),*) => { $(let $name = unsafe { from_raw_parts_mut($name, $len) };)* };
+}
+
+macro_rules! network {
+    ($n:ident, $m:ident, $b:ident, $e:ident, $ends:expr, $rays:expr, $weights:expr, $scales:expr, $points:expr, $offsets:expr, $rows:expr) => {
+        (
+            oracle::Network { n: $n, m: $m, b: $b, e: $e, ends: $ends, rays: $rays, weights: $weights, scales: $scales, points: $points, offsets: $offsets, rows: $rows },
+            subject::Network { n: $n, m: $m, b: $b, e: $e, ends: $ends, rays: $rays, weights: $weights, scales: $scales, points: $points, offsets: $offsets, rows: $rows },
+        )
+    };
+}
+
+#[unsafe(no_mangle)]
+pub unsafe extern "C" fn vobzeile_solve(
+    n: usize, m: usize, b: usize, e: usize,
+    ends: *const usize, ends_len: usize, rays: *const f64, rays_len: usize, weights: *const f64, weights_len: usize,
+    scales: *const f64, scales_len: usize, points: *const f64, points_len: usize, offsets: *const usize, offsets_len: usize,
+    rows: *const usize, rows_len: usize,
+    route: usize, limit: usize,
+    work: *mut f64, work_len: usize, cameras: *mut f64, cameras_len: usize, placed: *mut f64, placed_len: usize,
+    report: *mut usize, report_len: usize,
+) -> usize {
+    shared!(ends ends_len, rays rays_len, weights weights_len, scales scales_len, points points_len, offsets offsets_len, rows rows_len);
+    lent!(work work_len, cameras cameras_len, placed placed_len, report report_len);
+    let (net, subject) = network!(n, m, b, e, ends, rays, weights, scales, points, offsets, rows);
+    let needed = || rules::work_length(n, m, b, e, route, limit);
+    let fit = || work.len() >= needed() && cameras.len() == 3 * n && placed.len() == 3 * m && report_len == 3;
+    if let Some(refusal) = rules::solve(&net, route, limit, fit) {
+        return refuse(report, refusal);
+    }
+    work[..needed()].fill(0.0);
+    match subject::solve(&subject, route, limit) {
+        Ok(answer) => {
+            cameras.copy_from_slice(&answer.cameras);
+            placed.copy_from_slice(&answer.points);
+            report.copy_from_slice(&[answer.anchor, answer.route, answer.rounds]);
+            0
+        }
+        Err(tag) => refuse(report, (tag.number, tag.place)),
+    }
+}
+
+macro_rules! step {
+    ($name:ident, $of:path) => {
+        #[unsafe(no_mangle)]
+        pub unsafe extern "C" fn $name(
+            n: usize, m: usize, b: usize, e: usize,
+            ends: *const usize, ends_len: usize, rays: *const f64, rays_len: usize, weights: *const f64, weights_len: usize,
+            scales: *const f64, scales_len: usize, points: *const f64, points_len: usize, offsets: *const usize, offsets_len: usize,
+            rows: *const usize, rows_len: usize,
+            current: *const f64, current_len: usize, trial: *const f64, trial_len: usize, mark: usize,
+            out: *mut f64, out_len: usize, report: *mut usize, report_len: usize,
+        ) -> usize {
+            shared!(ends ends_len, rays rays_len, weights weights_len, scales scales_len, points points_len, offsets offsets_len, rows rows_len);
+            shared!(current current_len, trial trial_len);
+            lent!(out out_len, report report_len);
+            let (net, subject) = network!(n, m, b, e, ends, rays, weights, scales, points, offsets, rows);
+            let marked = if mark == 1 { trial } else { current };
+            let fit = || current.len() == 3 * n && trial.len() == 3 * n && out.len() == b + e && report_len == 3;
+            if let Some(refusal) = rules::step(&net, marked, fit) {
+                return refuse(report, refusal);
+            }
+            out.copy_from_slice(&$of(&subject, marked));
+            0
+        }
+    };
+}
+
+step!(vobzeile_dots, subject::dots);
+step!(vobzeile_scales, subject::scales);
+
+#[unsafe(no_mangle)]
+pub unsafe extern "C" fn vobzeile_connected(
+    n: usize, m: usize, b: usize, e: usize,
+    ends: *const usize, ends_len: usize, weights: *const f64, weights_len: usize,
+    nodes: *mut usize, nodes_len: usize, report: *mut usize, report_len: usize,
+) -> usize {
+    shared!(ends ends_len, weights weights_len);
+    lent!(nodes nodes_len, report report_len);
+    let (net, subject) = network!(n, m, b, e, ends, &[], weights, &[], &[], &[], &[]);
+    if let Some(refusal) = rules::graph(&net, || nodes.len() >= n + m && report_len == 3) {
+        return refuse(report, refusal);
+    }
+    nodes[..n + m].fill(0);
+    report[0] = subject::connected(&subject) as usize;
+    0
+}
+
+#[unsafe(no_mangle)]
+pub unsafe extern "C" fn vobzeile_parts(
+    n: usize, m: usize, b: usize, e: usize,
+    ends: *const usize, ends_len: usize, weights: *const f64, weights_len: usize,
+    nodes: *mut usize, nodes_len: usize, labels: *mut usize, labels_len: usize, report: *mut usize, report_len: usize,
+) -> usize {
+    shared!(ends ends_len, weights weights_len);
+    lent!(nodes nodes_len, labels labels_len, report report_len);
+    let (net, subject) = network!(n, m, b, e, ends, &[], weights, &[], &[], &[], &[]);
+    if let Some(refusal) = rules::graph(&net, || nodes.len() >= n + m && labels.len() == n && report_len == 3) {
+        return refuse(report, refusal);
+    }
+    nodes[..n + m].fill(0);
+    let (label, parts) = subject::labels(&subject);
+    labels.copy_from_slice(&label);
+    report[0] = parts;
+    0
+}
+
+#[unsafe(no_mangle)]
+pub unsafe extern "C" fn vobzeile_work_length(
+    n: usize, m: usize, b: usize, e: usize, route: usize, limit: usize, report: *mut usize, report_len: usize,
+) -> usize {
+    lent!(report report_len);
+    let fit = report_len == 3;
+    if let Some(refusal) = rules::counts(n, m, b, e).or_else(|| (!fit).then_some((3, 0))) {
+        return refuse(report, refusal);
+    }
+    report[0] = rules::work_length(n, m, b, e, route, limit);
+    0
+}
