@@ -5,6 +5,8 @@ use Rattle.sqrt.specs.Root.{root}
 use Rattle.graph.proofs.Edges.{edge-row}
 use Rattle.system.proofs.Edges.{faint-mean, faint-right}
 use Rattle.recover.proofs.Edges.{recover-edges}
+use Rattle.iterative.proofs.Examples.{whole-solution, overflowing-fails}
+use Rattle.dense.proofs.Edges.{pair-stops, triple-stops}
 use Rattle.edges.specs.Edges.{Edges}
 
 pub edges : Edges
@@ -17,4 +19,8 @@ edges = record {
   faint-mean = faint-mean;
   faint-right = faint-right;
   recovered = recover-edges;
+  whole-case = whole-solution;
+  overflow-iterative = overflowing-fails;
+  overflow-dense = pair-stops;
+  entry-overflows = triple-stops;
 }

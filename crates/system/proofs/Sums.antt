@@ -15,8 +15,8 @@ use Rattle.field.specs.Buffer.{put, store, number, vector}
 use Rattle.field.proofs.Counting.{length-field, upto-suc}
 use Rattle.field.proofs.Buffers.{number-set, number-lawful, vector-lawful, map-more, store-more, store-none, put-store-comm, length-put}
 use Rattle.double.specs.Sums.{total}
-use Rattle.network.specs.Network.{Network, rows, offset}
-use Rattle.system.specs.System.{tiny, effective, pull, pullIn, listSize, rowOf, pullStep, pointWeight, pullSum, meanOf, meanOffset}
+use Rattle.network.specs.Network.{Network, rows, offset, listSize}
+use Rattle.system.specs.System.{tiny, effective, pull, pullIn, rowOf, pullStep, pointWeight, pullSum, meanOf, meanOffset}
 use Rattle.system.specs.Work.{weightsAt, meansAt, effectiveAt}
 use Rattle.system.specs.Formed.{Ready, Weighed, summed}
 use Rattle.system.proofs.Kept.{held-at, weighed-store}

@@ -12,7 +12,7 @@ use Rattle.field.specs.Vec.{null, origin, plus, minus, scale, over}
 use Rattle.field.specs.Count.{upto, field, lowest}
 use Rattle.field.specs.Buffer.{get, vector}
 use Rattle.double.specs.Sums.{total}
-use Rattle.network.specs.Network.{Network, rows, first, second, isBearing, offset, listedAt}
+use Rattle.network.specs.Network.{Network, rows, first, second, isBearing, offset, listedAt, listSize}
 use Rattle.network.specs.Lists.{none}
 use Rattle.system.specs.declared.CameraTerm.{CameraTerm}
 
@@ -47,11 +47,7 @@ pull net r = pullIn (net .rays) (net .graph .weights) (net .scales) r
 
 -- ---- points
 
--- how many rows point p lists
-abbrev pub listSize : Network → ℕ → ℕ
-listSize net p = offset net (p + 1) - offset net p
-
--- the i-th of them
+-- the i-th row that point p lists
 abbrev pub rowOf : Network → ℕ → ℕ → ℕ
 rowOf net p i = listedAt net (offset net p + i)
 

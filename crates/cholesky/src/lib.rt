@@ -1,0 +1,176 @@
+// Cholesky's factor of a matrix of d rows and columns, in the matrix's place, and the solution by substitution, in the right side's place.
+use double::is_finite;
+use field::Vec3;
+use field::get3;
+use field::put3;
+use sqrt::sqrt;
+ghost use mathlib.Core.Path.{_≡_};
+ghost use Prim.Native.Nat.{_+_, _*_, _<_, _≤_};
+ghost use lib.ListN.{length, take};
+ghost use Rattle.field.specs.Buffer.{load, store, vector};
+ghost use Rattle.cholesky.specs.Cholesky.{ended, remainder as remainderOf, factorEntry, pivot as pivotOf, factorRow, factor as factorOf, forwardVector, forward as forwardOf, backVector, backRow, back as backOf, finite3 as finiteVector, Substituted};
+
+// How a factor or a substitution ends: done, or stopped by document 01's refusal `number` at the row `row`.
+pub enum Solve {
+    Done,
+    Stopped { number: usize, row: usize },
+}
+
+// a_ij - l_i0 l_j0 - .. - l_i,j-1 l_j,j-1.
+fn remainder(a: &[f64], d: usize, i: usize, j: usize) -> f64
+    requires { ⌜ (length (now a) ≡ d * d) × (j ≤ i) × (i < d) ⌝ }
+    ensures { λ r. ⌜ r ≡ remainderOf d (now (a .entry)) i j ⌝ }
+{
+    let p = i * d;
+    let q = j * d;
+    let mut v = a[p + j];
+    let mut k = 0usize;
+    while k < j {
+        v = v - a[p + k] * a[q + k];
+        k += 1;
+    }
+    v
+}
+
+// l_ij, the remainder over l_jj.
+fn factor_entry(a: &mut [f64], d: usize, i: usize, j: usize) -> Solve
+    requires { ⌜ (length (now a) ≡ d * d) × (j < i) × (i < d) ⌝ }
+    ensures { λ r. ⌜ ended r (now (a .exit)) ≡ factorEntry d i j (now (a .entry)) ⌝ }
+{
+    let x = remainder(a, d, i, j) / a[j * d + j];
+    if is_finite(x) {
+        a[i * d + j] = x;
+        return Solve::Done;
+    }
+    Solve::Stopped { number: 16, row: i }
+}
+
+// l_ii, the root of the remainder.
+fn pivot(a: &mut [f64], d: usize, i: usize) -> Solve
+    requires { ⌜ (length (now a) ≡ d * d) × (i < d) ⌝ }
+    ensures { λ r. ⌜ ended r (now (a .exit)) ≡ pivotOf d i (now (a .entry)) ⌝ }
+{
+    let v = remainder(a, d, i, i);
+    if is_finite(v) && 0.0 < v {
+        let root = sqrt(v);
+        a[i * d + i] = root;
+        return Solve::Done;
+    }
+    Solve::Stopped { number: 15, row: i }
+}
+
+fn factor_row(a: &mut [f64], d: usize, i: usize) -> Solve
+    requires { ⌜ (length (now a) ≡ d * d) × (i < d) ⌝ }
+    ensures { λ r. ⌜ ended r (now (a .exit)) ≡ factorRow d i (now (a .entry)) ⌝ }
+{
+    let mut j = 0usize;
+    while j < i {
+        let step = factor_entry(a, d, i, j);
+        let Solve::Done = step else {
+            return step;
+        };
+        j += 1;
+    }
+    pivot(a, d, i)
+}
+
+pub fn factor(a: &mut [f64], d: usize) -> Solve
+    requires { ⌜ length (now a) ≡ d * d ⌝ }
+    ensures { λ r. ⌜ ended r (now (a .exit)) ≡ factorOf d (now (a .entry)) ⌝ }
+{
+    let mut i = 0usize;
+    while i < d {
+        let step = factor_row(a, d, i);
+        let Solve::Done = step else {
+            return step;
+        };
+        i += 1;
+    }
+    Solve::Done
+}
+
+// y_i of the forward substitution. Here and below s holds the factor, then the right side.
+fn forward_vector(s: &[f64], d: usize, i: usize) -> Vec3
+    requires { ⌜ (length (now s) ≡ d * d + 3 * d) × (i < d) ⌝ }
+    ensures { λ r. ⌜ r ≡ forwardVector d (take (d * d) (now (s .entry))) (load vector (now (s .entry)) (d * d) d) i ⌝ }
+{
+    let p = i * d;
+    let b = d * d;
+    let mut v = get3(s, b + 3 * i);
+    let mut k = 0usize;
+    while k < i {
+        v = v.sub(get3(s, b + 3 * k).mul(s[p + k]));
+        k += 1;
+    }
+    v.div(s[p + i])
+}
+
+fn forward(s: &mut [f64], d: usize)
+    requires { ⌜ length (now s) ≡ d * d + 3 * d ⌝ }
+    ensures { λ r. ⌜ now (s .exit) ≡ store vector (now (s .entry)) (d * d) (forwardOf d (take (d * d) (now (s .entry))) (load vector (now (s .entry)) (d * d) d)) ⌝ }
+{
+    let b = d * d;
+    let mut i = 0usize;
+    while i < d {
+        let v = forward_vector(s, d, i);
+        put3(s, b + 3 * i, v);
+        i += 1;
+    }
+}
+
+// x_i of the back substitution.
+fn back_vector(s: &[f64], d: usize, i: usize) -> Vec3
+    requires { ⌜ (length (now s) ≡ d * d + 3 * d) × (i < d) ⌝ }
+    ensures { λ r. ⌜ r ≡ backVector d (take (d * d) (now (s .entry))) (load vector (now (s .entry)) (d * d) d) i ⌝ }
+{
+    let b = d * d;
+    let mut v = get3(s, b + 3 * i);
+    let mut k = i + 1;
+    while k < d {
+        v = v.sub(get3(s, b + 3 * k).mul(s[k * d + i]));
+        k += 1;
+    }
+    v.div(s[i * d + i])
+}
+
+fn finite3(v: Vec3) -> bool
+    ensures { λ r. ⌜ r ≡ finiteVector v ⌝ }
+{
+    is_finite(v.x) && (is_finite(v.y) && is_finite(v.z))
+}
+
+fn back_row(s: &mut [f64], d: usize, i: usize) -> Solve
+    requires { ⌜ (length (now s) ≡ d * d + 3 * d) × (i < d) ⌝ }
+    ensures { λ r. ⌜ Substituted d (now (s .entry)) (now (s .exit)) r (backRow d (take (d * d) (now (s .entry))) i (load vector (now (s .entry)) (d * d) d)) ⌝ }
+{
+    let v = back_vector(s, d, i);
+    if finite3(v) {
+        put3(s, d * d + 3 * i, v);
+        return Solve::Done;
+    }
+    Solve::Stopped { number: 17, row: i }
+}
+
+// From the last row up.
+fn back(s: &mut [f64], d: usize) -> Solve
+    requires { ⌜ length (now s) ≡ d * d + 3 * d ⌝ }
+    ensures { λ r. ⌜ Substituted d (now (s .entry)) (now (s .exit)) r (backOf d (take (d * d) (now (s .entry))) (load vector (now (s .entry)) (d * d) d)) ⌝ }
+{
+    let mut t = 0usize;
+    while t < d {
+        let step = back_row(s, d, d - 1 - t);
+        let Solve::Done = step else {
+            return step;
+        };
+        t += 1;
+    }
+    Solve::Done
+}
+
+pub fn substitute(s: &mut [f64], d: usize) -> Solve
+    requires { ⌜ length (now s) ≡ d * d + 3 * d ⌝ }
+    ensures { λ r. ⌜ Substituted d (now (s .entry)) (now (s .exit)) r (backOf d (take (d * d) (now (s .entry))) (forwardOf d (take (d * d) (now (s .entry))) (load vector (now (s .entry)) (d * d) d))) ⌝ }
+{
+    forward(s, d);
+    back(s, d)
+}

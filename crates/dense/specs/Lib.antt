@@ -1,0 +1,4 @@
+pub mod Rows
+pub mod Matrix
+pub mod Dense
+pub mod Edges

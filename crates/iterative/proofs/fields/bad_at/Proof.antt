@@ -1,0 +1,20 @@
+use borrow.Author.Tests.{not-true, not-false, eq-eqb, ne-eqb}
+use mathlib.Core.Path.{sym, _∙_}
+use borrow.Author.Needs.{needs}
+use Rattle.iterative.proofs.fields.bad_at.Statement.{statement}
+use Rattle.iterative.proofs.fields.bad_at.Tie as tie
+
+returns : tie.Need-returns
+returns c = rw (eq-eqb _ _ (c .if1 .taken))
+
+is-finite-requires : tie.Need-is-finite-requires
+is-finite-requires c κs = search needs
+
+returns-2 : tie.Need-returns-2
+returns-2 c = rw (ne-eqb _ _ (c .before .before .if1 .left), sym (c .before .is-finite .ensures) ∙ not-true _ (c .if2 .taken))
+
+returns-3 : tie.Need-returns-3
+returns-3 c = rw (ne-eqb _ _ (c .before .before .if1 .left), sym (c .before .is-finite .ensures) ∙ not-false _ (c .if2 .left))
+
+pub bad-at-spec : {M : Type 1} → statement M
+bad-at-spec = tie.close (tie.spec returns is-finite-requires returns-2 returns-3)

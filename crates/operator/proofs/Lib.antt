@@ -1,0 +1,5 @@
+pub mod OperatorLaws
+pub mod Standing
+pub mod Outside
+pub mod Fills
+pub mod Passes

@@ -1,0 +1,43 @@
+-- What is read of the buffer where the system stands, and of the point lists. Assumes nothing.
+use mathlib.Core.Path.{ap, sym, _∙_, _≡_}
+use mathlib.Core.List.{List}
+use Prim.Native.Nat.{ℕ, _+_, _<_}
+use native.Mathlib.Omega.{arith}
+use lib.ListN.{getD}
+use lib.Ieee.{Float, nan}
+use Rattle.field.proofs.Buffers.{getD-part}
+use Rattle.field.proofs.Counting.{getD-field}
+use Rattle.field.specs.Buffer.{part}
+use Rattle.field.specs.Count.{field}
+use Rattle.network.specs.Network.{Network, first, listSize, offset, rows}
+use Rattle.network.specs.Sound.{NetworkSound}
+use Rattle.system.specs.System.{effective, pointWeight, rowOf}
+use Rattle.system.specs.Work.{effectiveAt, weightsAt}
+use Rattle.operator.specs.Posed.{Ordered, Posed, camerasOf}
+
+-- an element of a part that is known
+seen-part : (l : List Float) (p n i : ℕ) (g : ℕ → Float) → part l p n ≡ field n g → i < n → getD l (p + i) nan ≡ g i
+seen-part l p n i g e h = sym (getD-part l p n i nan h) ∙ ap (λ (t : List Float). getD t i nan) e ∙ getD-field n g i nan h
+
+module _ (net : Network) (l : List Float) (P : Posed net l) where
+  pub effective-at : (r : ℕ) → r < rows (net .graph .shape) → getD l (effectiveAt (camerasOf net) (net .graph .shape .points) + r) nan ≡ effective net r
+  effective-at r h = seen-part l _ _ r (effective net) (P .segments .effective) h
+
+  pub weight-at : (p : ℕ) → p < net .graph .shape .points → getD l (weightsAt (camerasOf net) + p) nan ≡ pointWeight net p
+  weight-at p h = seen-part l _ _ p (pointWeight net) (P .segments .weights) h
+
+-- the i-th row that point p lists: its place in the lists, its number, its camera
+pub record Listed (net : Network) (p i : ℕ) : Type 0 where
+  pub place : offset net p + i < net .graph .shape .bearings
+  pub row : rowOf net p i < net .graph .shape .bearings
+  pub camera : first (net .graph) (rowOf net p i) < net .graph .shape .cameras
+
+pub listed-row : {net : Network} → NetworkSound net → (p i : ℕ) → p < net .graph .shape .points → i < listSize net p → Listed net p i
+listed-row {net} S p i h k =
+    let a : offset net p + i < net .graph .shape .bearings = omega (arith, S .within (p + 1) (omega arith)) in
+    let b = S .bearing (offset net p + i) a in
+    record { place = a; row = b; camera = S .ends .camera (rowOf net p i) (omega arith) }
+
+-- a buffer of the same length
+pub ordered-in : {n from into size : ℕ} (size' : ℕ) → Ordered n from into size → size' ≡ size → Ordered n from into size'
+ordered-in size' O e = record { few = O .few; first = O .first; apart = O .apart; last = O .last; room = omega (arith, O .room) }
