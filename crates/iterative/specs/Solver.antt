@@ -43,7 +43,7 @@ pub record Roomy (n size : ℕ) : Type 0 where
   pub few : n ≤ 4096
   pub room : 23 * n ≤ size
 
--- besides, a is the anchor and the right side is in its place
+-- the system is posed, a is its anchor, and the right side is in its place
 pub record Started (net : Network) (a : ℕ) (l : List Float) : Type 0 where
   pub posed : Posed net l
   pub anchor : a ≡ anchor net
@@ -74,7 +74,7 @@ runOf n l (Ended r) = ended (stateOf n l r)
 
 -- ---- what is kept
 
--- and the right side
+-- what a round keeps: all that lies outside the six fields, and the right side
 pub record Kept (n : ℕ) (l l' : List Float) : Type 0 where
   pub outside : Outside n l l'
   pub right : load vector l' (rightAt n) n ≡ load vector l (rightAt n) n
