@@ -17,10 +17,10 @@ use Rattle.iterative.specs.Accepted.{Accepted}
 use Rattle.iterative.proofs.Acceptance.{accepted-network}
 
 -- an answer with a count is that of a run that ended
-record Ending (x : Run) (k : ℕ) : Type 0 where
-  state : State
-  is : x ≡ ended state
-  count : state .round .count ≡ k
+pub record Ending (x : Run) (k : ℕ) : Type 0 where
+  pub state : State
+  pub is : x ≡ ended state
+  pub count : state .round .count ≡ k
 
 unless-ending : (p : Place) (s : State) (k : ℕ) → answerOf (unless p 13 (ended s)) ≡ Placed k → Ending (unless p 13 (ended s)) k
 unless-ending (At i) s k e = let z : _≡_ {A = ℕ} 0 1 = cc in absurd (omega arith)
@@ -31,7 +31,7 @@ closed-ending P (going s) k e = unless-ending (component (unfitAt (allowed P) (r
 closed-ending P (ended s) k e = unless-ending (component (unfitAt (allowed P) (residualOf P (s .positions)))) s k e
 closed-ending P (failed n i) k e = let z : _≡_ {A = ℕ} 0 1 = cc in absurd (omega arith)
 
-solution-ending : (P : Problem) (k : ℕ) → answerOf (solution P) ≡ Placed k → Ending (solution P) k
+pub solution-ending : (P : Problem) (k : ℕ) → answerOf (solution P) ≡ Placed k → Ending (solution P) k
 unfolding solution
 solution-ending P k e = closed-ending P (rounds P (mostRounds (P .cameras))) k e
 

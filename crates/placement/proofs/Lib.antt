@@ -1,0 +1,2 @@
+pub mod Routing
+pub mod Placing

@@ -1,0 +1,54 @@
+-- The contract of the solve: all of demands 1 to 3 about it. A reader of this page can tell what an accepted placement means.
+use Prim.Native.Nat.{ℕ}
+use mathlib.Core.Path.{_≡_}
+use mathlib.Core.List.{List, _++_}
+use lib.ListN.{drop, replicate}
+use lib.Ieee.{Float}
+use Rattle.field.specs.Vec.{null}
+use Rattle.field.specs.Buffer.{flat, load, vector}
+use Rattle.network.specs.Network.{Network}
+use Rattle.network.specs.Refusals.{workLength}
+use Rattle.recover.specs.Recover.{pointsOf}
+use Rattle.iterative.specs.Reduced.{problem}
+use Rattle.iterative.specs.Accepted.{Accepted as Meaning}
+use Rattle.placement.specs.declared.Answer.{Answer}
+use Rattle.placement.specs.declared.Answer.the-variants.{Refused, Accepted}
+use Rattle.placement.specs.Routes.{Submission, Placement, rejected, failing, placed, placement, report}
+
+-- document 01's answer for each way in which a solve ends
+abbrev pub answerOf : Placement → Answer
+answerOf (rejected r) = Refused r
+answerOf (failing r) = Refused r
+answerOf (placed p cameras) = Accepted p
+
+-- the cameras' output: n triples, or untouched on every refusal
+abbrev pub camerasAfter : Placement → List Float → List Float
+camerasAfter (rejected r) old = old
+camerasAfter (failing r) old = old
+camerasAfter (placed p cameras) old = flat vector cameras
+
+-- the points' output: m triples, recovered from the cameras, or untouched on every refusal
+abbrev pub pointsAfter : Network → Placement → List Float → List Float
+pointsAfter net (rejected r) old = old
+pointsAfter net (failing r) old = old
+pointsAfter net (placed p cameras) old = flat vector (pointsOf net cameras)
+
+-- the work buffer: untouched on 1 to 8; otherwise t zeros (+0.0) and then its surplus as it was
+abbrev pub workAfter : ℕ → Placement → List Float → List Float
+workAfter t (rejected r) old = old
+workAfter t (failing r) old = replicate t null ++ drop t old
+workAfter t (placed p cameras) old = replicate t null ++ drop t old
+
+-- of the submission i, the answer r, and each lent buffer before and after
+pub record Solved (i : Submission) (r : Answer) (work work' cameras cameras' points points' : List Float) : Type 0 where
+  pub answer : r ≡ answerOf (placement i)
+  pub camerasOut : cameras' ≡ camerasAfter (placement i) cameras
+  pub pointsOut : points' ≡ pointsAfter (i .net) (placement i) points
+  pub workOut : work' ≡ workAfter (workLength (i .net .graph .shape) (i .route) (i .limit)) (placement i) work
+  -- Demand 3. Whatever network is submitted, whatever its numbers overflow to and whatever the lent buffers held: where the iterative
+  -- part answered (route 2, or route 3 answering as 2), the cameras that the output holds and the rounds that are reported are such that
+  -- every camera coordinate is finite; the anchor is three positive zeros; the residual of each of x, y and z, worked out afresh from
+  -- the network and these cameras, is finite and at most (1e-10 × root of its right-side square sum + 1e-12) squared in double
+  -- arithmetic; and the cameras and the count are those that the written method ends with, at most 8(n-1) clamped to 64..4000.
+  -- (`Meaning` has a field for each of these clauses; `problem` is the system that the network forms.)
+  pub meaning : (a k : ℕ) → r ≡ Accepted (report a 2 k) → Meaning (problem (i .net)) (load vector cameras' 0 (i .net .graph .shape .cameras)) k
