@@ -2,13 +2,23 @@
 use Prim.Native.Nat.{ℕ}
 use mathlib.Core.Path.{_≡_}
 use mathlib.Core.List.{List}
-use lib.ListN.{set}
+use lib.ListN.{length, set}
+use lib.Ieee.{Float}
 use Rattle.network.specs.Network.{Graph}
 use Rattle.graph.specs.declared.Connectivity.{Connectivity}
 use Rattle.graph.specs.declared.Connectivity.the-variants as connectivity
 use Rattle.graph.specs.declared.Listing.{Listing}
 use Rattle.graph.specs.declared.Listing.the-variants as listing
 use Rattle.graph.specs.Outcome.{ConnectivityCall, ListingCall}
+use Rattle.network.specs.declared.Length.{Length}
+use Rattle.network.specs.declared.Length.the-variants as needed
+use Rattle.network.specs.declared.Verdict.{Verdict}
+use Rattle.network.specs.declared.Verdict.the-variants as verdict
+use Rattle.recover.specs.Contracts.{Placed, DotsFilled, ScalesFilled}
+use Rattle.placement.specs.declared.Answer.{Answer}
+use Rattle.placement.specs.declared.Answer.the-variants as solving
+use Rattle.placement.specs.Routes.{Submission}
+use Rattle.placement.specs.Solved.{Solved}
 
 -- connected is 1, not connected 0
 abbrev pub connectivityCode : Connectivity → ℕ
@@ -30,6 +40,33 @@ abbrev pub listingReport : Listing → ℕ
 listingReport (listing.Refused r) = r .place
 listingReport (listing.Parts k) = k
 
+-- the length
+abbrev pub lengthCode : Length → ℕ
+lengthCode (needed.Refused r) = r .number
+lengthCode (needed.Of t) = 0
+
+abbrev pub lengthReport : Length → ℕ
+lengthReport (needed.Refused r) = r .place
+lengthReport (needed.Of t) = t
+
+-- nothing is asked but whether it went
+abbrev pub verdictCode : Verdict → ℕ
+verdictCode (verdict.Refused r) = r .number
+verdictCode verdict.Passed = 0
+
+abbrev pub verdictReport : Verdict → ℕ
+verdictReport (verdict.Refused r) = r .place
+verdictReport verdict.Passed = 0
+
+-- a solve's report has three numbers: anchor, route, rounds
+abbrev pub answerCode : Answer → ℕ
+answerCode (solving.Refused r) = r .number
+answerCode (solving.Accepted p) = 0
+
+abbrev pub answerReport : Answer → List ℕ → List ℕ
+answerReport (solving.Refused r) old = set old 0 (r .place)
+answerReport (solving.Accepted p) old = set (set (set old 0 (p .anchor)) 1 (p .route)) 2 (p .rounds)
+
 -- ---- the calls, with the answer that the Rattle function gives
 
 pub record ConnectedCall (g : Graph) (code : ℕ) (nodes nodes' report report' : List ℕ) : Type 0 where
@@ -43,3 +80,38 @@ pub record PartsCall (g : Graph) (code : ℕ) (nodes nodes' labels labels' repor
   pub call : ListingCall g answer nodes nodes' labels labels'
   pub coded : code ≡ listingCode answer
   pub reported : report' ≡ set report 0 (listingReport answer)
+
+pub record LengthCall (answer : Length) (code : ℕ) (report report' : List ℕ) : Type 0 where
+  pub coded : code ≡ lengthCode answer
+  pub reported : report' ≡ set report 0 (lengthReport answer)
+
+pub record DotsCall (i : Placed) (code : ℕ) (out out' : List Float) (report report' : List ℕ) : Type 0 where
+  pub answer : Verdict
+  pub call : DotsFilled i answer out out'
+  pub coded : code ≡ verdictCode answer
+  pub reported : report' ≡ set report 0 (verdictReport answer)
+
+pub record ScalesCall (i : Placed) (code : ℕ) (out out' : List Float) (report report' : List ℕ) : Type 0 where
+  pub answer : Verdict
+  pub call : ScalesFilled i answer out out'
+  pub coded : code ≡ verdictCode answer
+  pub reported : report' ≡ set report 0 (verdictReport answer)
+
+-- where the report has three numbers
+pub record Reported (i : Submission) (code : ℕ) (work work' cameras cameras' points points' : List Float) (report report' : List ℕ) : Type 0 where
+  pub answer : Answer
+  pub call : Solved i answer work work' cameras cameras' points points'
+  pub coded : code ≡ answerCode answer
+  pub reported : report' ≡ answerReport answer report
+
+-- where it has not
+pub record Unreported (code : ℕ) (work work' cameras cameras' points points' : List Float) (report report' : List ℕ) : Type 0 where
+  pub coded : code ≡ 3
+  pub workKept : work' ≡ work
+  pub camerasKept : cameras' ≡ cameras
+  pub pointsKept : points' ≡ points
+  pub reportKept : report' ≡ report
+
+pub record SolveCall (i : Submission) (code : ℕ) (work work' cameras cameras' points points' : List Float) (report report' : List ℕ) : Type 0 where
+  pub whole : length report ≡ 3 → Reported i code work work' cameras cameras' points points' report report'
+  pub otherwise : (length report ≡ 3 → ⊥) → Unreported code work work' cameras cameras' points points' report report'

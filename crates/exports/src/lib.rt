@@ -3,10 +3,19 @@ ghost use mathlib.Core.Path.{_≡_};
 ghost use lib.Ieee.{binary64};
 ghost use lib.ListN.{set as stored};
 ghost use Rattle.sqrt.specs.Root.{root};
-ghost use Rattle.network.specs.Network.{shape, graph as graphOf};
-ghost use Rattle.exports.specs.Codes.{connectivityCode, connectivityReport, listingCode, listingReport, ConnectedCall, PartsCall};
+ghost use lib.ListN.{length};
+ghost use lib.Dec.{eqb};
+ghost use mathlib.Core.Bool.{not};
+ghost use Rattle.network.specs.Network.{lent, shape, graph as graphOf};
+ghost use Rattle.network.specs.Refusals.{lengthOf};
+ghost use Rattle.recover.specs.Contracts.{placed as placedOf};
+ghost use Rattle.placement.specs.Routes.{submission};
+ghost use Rattle.exports.specs.Codes.{connectivityCode, connectivityReport, listingCode, listingReport, lengthCode, lengthReport, verdictCode, verdictReport, answerCode, answerReport, ConnectedCall, PartsCall, LengthCall, DotsCall, ScalesCall, SolveCall};
 use graph::Connectivity;
 use graph::Listing;
+use network::Length;
+use network::Verdict;
+use placement::Answer;
 
 // The square root, correctly rounded.
 #[no_mangle]
@@ -100,4 +109,219 @@ pub extern "C" fn vobzeile_parts(
     let answer = graph::parts(n, m, b, e, ends, weights, nodes, labels);
     put(report, listing_report(answer));
     listing_code(answer)
+}
+
+fn length_code(a: Length) -> usize
+    ensures { λ r. ⌜ r ≡ lengthCode a ⌝ }
+{
+    match a {
+        Length::Refused(r) => r.number,
+        Length::Of(_) => 0,
+    }
+}
+
+fn length_report(a: Length) -> usize
+    ensures { λ r. ⌜ r ≡ lengthReport a ⌝ }
+{
+    match a {
+        Length::Refused(r) => r.place,
+        Length::Of(t) => t,
+    }
+}
+
+fn verdict_code(a: Verdict) -> usize
+    ensures { λ r. ⌜ r ≡ verdictCode a ⌝ }
+{
+    match a {
+        Verdict::Refused(r) => r.number,
+        Verdict::Passed => 0,
+    }
+}
+
+fn verdict_report(a: Verdict) -> usize
+    ensures { λ r. ⌜ r ≡ verdictReport a ⌝ }
+{
+    match a {
+        Verdict::Refused(r) => r.place,
+        Verdict::Passed => 0,
+    }
+}
+
+fn answer_code(a: Answer) -> usize
+    ensures { λ r. ⌜ r ≡ answerCode a ⌝ }
+{
+    match a {
+        Answer::Refused(r) => r.number,
+        Answer::Accepted(_) => 0,
+    }
+}
+
+// The place of a refusal, or anchor, route and rounds, in a report of three numbers.
+fn put_answer(report: &mut [usize], a: Answer)
+    requires { ⌜ length (now report) ≡ 3 ⌝ }
+    ensures { λ _. ⌜ now (report .exit) ≡ answerReport a (now (report .entry)) ⌝ }
+{
+    match a {
+        Answer::Refused(r) => {
+            report[0] = r.place;
+        }
+        Answer::Accepted(p) => {
+            report[0] = p.anchor;
+            report[1] = p.route;
+            report[2] = p.rounds;
+        }
+    }
+}
+
+// The doubles that the work buffer of a solve needs, in the report: 0, or the refusal's number with its place there.
+#[no_mangle]
+pub extern "C" fn vobzeile_work_length(
+    n: usize,
+    m: usize,
+    b: usize,
+    e: usize,
+    route: usize,
+    limit: usize,
+    report: &mut [usize],
+) -> usize
+    ensures { λ r. ⌜ LengthCall (lengthOf (shape n m b e) route limit) r (now (report .entry)) (now (report .exit)) ⌝ }
+{
+    let answer = network::work_length(n, m, b, e, route, limit);
+    put(report, length_report(answer));
+    length_code(answer)
+}
+
+// The dot of each row with its baseline, bearings first: 0, or the refusal's number with its place in the report. The cameras are those of `trial` where the mark is not 0, else of `current`.
+#[no_mangle]
+pub extern "C" fn vobzeile_dots<'a>(
+    n: usize,
+    m: usize,
+    b: usize,
+    e: usize,
+    ends: &[usize],
+    rays: &[f64],
+    weights: &[f64],
+    scales: &[f64],
+    points: &[f64],
+    offsets: &[usize],
+    rows: &[usize],
+    current: &'a [f64],
+    trial: &'a [f64],
+    mark: usize,
+    out: &mut [f64],
+    report: &mut [usize],
+) -> usize
+    ensures { λ r. ⌜ DotsCall (placedOf (lent n m b e (now (ends .entry)) (now (rays .entry)) (now (weights .entry)) (now (scales .entry)) (now (points .entry)) (now (offsets .entry)) (now (rows .entry))) (now (current .entry)) (now (trial .entry)) (not (eqb mark 0)) (length (now (out .entry)))) r (now (out .entry)) (now (out .exit)) (now (report .entry)) (now (report .exit)) ⌝ }
+{
+    let verdict = recover::dots(
+        n,
+        m,
+        b,
+        e,
+        ends,
+        rays,
+        weights,
+        scales,
+        points,
+        offsets,
+        rows,
+        current,
+        trial,
+        mark != 0,
+        out,
+    );
+    put(report, verdict_report(verdict));
+    verdict_code(verdict)
+}
+
+// The scale of each row, kept or renewed, bearings first: 0, or the refusal's number with its place in the report. The cameras are those of `trial` where the mark is not 0, else of `current`.
+#[no_mangle]
+pub extern "C" fn vobzeile_scales<'a>(
+    n: usize,
+    m: usize,
+    b: usize,
+    e: usize,
+    ends: &[usize],
+    rays: &[f64],
+    weights: &[f64],
+    scales: &[f64],
+    points: &[f64],
+    offsets: &[usize],
+    rows: &[usize],
+    current: &'a [f64],
+    trial: &'a [f64],
+    mark: usize,
+    out: &mut [f64],
+    report: &mut [usize],
+) -> usize
+    ensures { λ r. ⌜ ScalesCall (placedOf (lent n m b e (now (ends .entry)) (now (rays .entry)) (now (weights .entry)) (now (scales .entry)) (now (points .entry)) (now (offsets .entry)) (now (rows .entry))) (now (current .entry)) (now (trial .entry)) (not (eqb mark 0)) (length (now (out .entry)))) r (now (out .entry)) (now (out .exit)) (now (report .entry)) (now (report .exit)) ⌝ }
+{
+    let verdict = recover::scales(
+        n,
+        m,
+        b,
+        e,
+        ends,
+        rays,
+        weights,
+        scales,
+        points,
+        offsets,
+        rows,
+        current,
+        trial,
+        mark != 0,
+        out,
+    );
+    put(report, verdict_report(verdict));
+    verdict_code(verdict)
+}
+
+// The solve: 0 with anchor, route and rounds in the report, or the refusal's number with its place as the report's first number. A report
+// that has not three numbers is refused before all else, by 3, and nothing is changed.
+#[no_mangle]
+pub extern "C" fn vobzeile_solve(
+    n: usize,
+    m: usize,
+    b: usize,
+    e: usize,
+    ends: &[usize],
+    rays: &[f64],
+    weights: &[f64],
+    scales: &[f64],
+    points: &[f64],
+    offsets: &[usize],
+    rows: &[usize],
+    route: usize,
+    limit: usize,
+    work: &mut [f64],
+    cameras: &mut [f64],
+    placed: &mut [f64],
+    report: &mut [usize],
+) -> usize
+    ensures { λ r. ⌜ SolveCall (submission (lent n m b e (now (ends .entry)) (now (rays .entry)) (now (weights .entry)) (now (scales .entry)) (now (points .entry)) (now (offsets .entry)) (now (rows .entry))) route limit (length (now (work .entry))) (length (now (cameras .entry))) (length (now (placed .entry)))) r (now (work .entry)) (now (work .exit)) (now (cameras .entry)) (now (cameras .exit)) (now (placed .entry)) (now (placed .exit)) (now (report .entry)) (now (report .exit)) ⌝ }
+{
+    if report.len() != 3 {
+        return 3;
+    }
+    let answer = placement::solve(
+        n,
+        m,
+        b,
+        e,
+        ends,
+        rays,
+        weights,
+        scales,
+        points,
+        offsets,
+        rows,
+        route,
+        limit,
+        work,
+        cameras,
+        placed,
+    );
+    put_answer(report, answer);
+    answer_code(answer)
 }

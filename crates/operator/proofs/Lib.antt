@@ -3,3 +3,4 @@ pub mod Standing
 pub mod Outside
 pub mod Fills
 pub mod Passes
+pub mod Operands

@@ -1,16 +1,19 @@
 // The reduced camera system, matrix-free. The effective weights and the point weights stand in the work buffer.
+pub mod held;
+
 use field::Vec3;
 use field::gain3;
 use field::get3;
 use field::put3;
+use held::row_pull;
 ghost use mathlib.Core.Path.{_≡_};
 ghost use mathlib.Core.Bool.{cond};
 ghost use Prim.Native.Nat.{_+_, _*_, _<_, _≤_};
 ghost use lib.Dec.{eqb};
 ghost use lib.ListN.{length};
-ghost use Rattle.field.specs.Vec.{origin, plus, minus, scale};
+ghost use Rattle.field.specs.Vec.{origin, plus, minus};
 ghost use Rattle.field.specs.Count.{upto};
-ghost use Rattle.field.specs.Buffer.{get, load, store, vector};
+ghost use Rattle.field.specs.Buffer.{load, store, vector};
 ghost use Rattle.network.specs.Network.{Network, lent, listSize};
 ghost use Rattle.operator.specs.Operator.{changed, ridged, meanStep, bearingStep, listStep, pointStep, directionStep, reduced};
 ghost use Rattle.operator.specs.Posed.{Posed, Ordered};
@@ -94,8 +97,9 @@ fn bearing_step(
     ensures { λ net x. ⌜ now (work .exit) ≡ store vector (now (work .entry)) into (bearingStep net anchor (load vector (now (work .entry)) from n) u r (load vector (now (work .entry)) into n)) ⌝ }
 {
     let c = ends[2 * r];
-    let v = get3(work, from + 3 * c).sub(u)
-        .mul(work[23 * n + 4 * m + r]);
+    let x = get3(work, from + 3 * c);
+    let at = 23 * n + 4 * m;
+    let v = row_pull(work, at, at + b + e, r, x, u);
     gain(work, n, anchor, into, c, v);
 }
 
@@ -305,14 +309,6 @@ fn points_pass(
     }
 }
 
-// The difference of two vectors of a buffer, scaled.
-fn pull(work: &[f64], p: usize, q: usize, w: f64) -> Vec3
-    requires { ⌜ (p + 3 ≤ length (now work)) × (q + 3 ≤ length (now work)) ⌝ }
-    ensures { λ r. ⌜ r ≡ scale (minus (get vector (now (work .entry)) p) (get vector (now (work .entry)) q)) w ⌝ }
-{
-    get3(work, p).sub(get3(work, q)).mul(w)
-}
-
 // The source of direction d loses (target - source) × its effective weight, and then its target gains it.
 fn direction_step(
     n: usize,
@@ -342,7 +338,10 @@ fn direction_step(
     let r = b + d;
     let s = ends[2 * r];
     let t = ends[2 * r + 1];
-    let v = pull(work, from + 3 * t, from + 3 * s, work[23 * n + 4 * m + r]);
+    let x = get3(work, from + 3 * t);
+    let y = get3(work, from + 3 * s);
+    let at = 23 * n + 4 * m;
+    let v = row_pull(work, at, at + b + e, r, x, y);
     lose(work, n, anchor, into, s, v);
     gain(work, n, anchor, into, t, v);
 }

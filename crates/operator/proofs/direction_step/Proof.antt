@@ -1,3 +1,4 @@
+use mathlib.Core.Path.{_∙_}
 use Prim.Native.Nat.{_+_}
 use Rattle.operator.proofs.Passes.{direction-done}
 use native.Mathlib.Omega.{arith}
@@ -29,50 +30,53 @@ mul-t-2 c = search needs
 shared-slice-read-t : tie.Need-shared-slice-read-t
 shared-slice-read-t c = search needs
 
-mul-pull : tie.Need-mul-pull
-mul-pull c = let h = c .before .before .before .before .before .before .before .before .before .before .before .pre .0 .sound .ends .camera (c .before .before .before .before .before .before .before .before .before .before .before .args .b + c .before .before .before .before .before .before .before .before .before .before .before .args .d) (omega (arith, c .before .before .before .before .before .before .before .before .before .before .before .pre .1 .1)) in let k = c .before .before .before .before .before .before .before .before .before .before .before .pre .0 .sound .ends .target (c .before .before .before .before .before .before .before .before .before .before .before .args .b + c .before .before .before .before .before .before .before .before .before .before .before .args .d) (omega arith) (omega (arith, c .before .before .before .before .before .before .before .before .before .before .before .pre .1 .1)) in omega arith
+mul-get3 : tie.Need-mul-get3
+mul-get3 c = let p = c .before .before .before .before .before .before .before .before .before .before .before in let r = p .args .b + p .args .d in let h = p .pre .0 .sound .ends .camera r (omega (arith, p .pre .1 .1)) in let k = p .pre .0 .sound .ends .target r (omega arith) (omega (arith, p .pre .1 .1)) in omega arith
 
-add-pull : tie.Need-add-pull
-add-pull c = let h = c .before .before .before .before .before .before .before .before .before .before .before .pre .0 .sound .ends .camera (c .before .before .before .before .before .before .before .before .before .before .before .args .b + c .before .before .before .before .before .before .before .before .before .before .before .args .d) (omega (arith, c .before .before .before .before .before .before .before .before .before .before .before .pre .1 .1)) in let k = c .before .before .before .before .before .before .before .before .before .before .before .pre .0 .sound .ends .target (c .before .before .before .before .before .before .before .before .before .before .before .args .b + c .before .before .before .before .before .before .before .before .before .before .before .args .d) (omega arith) (omega (arith, c .before .before .before .before .before .before .before .before .before .before .before .pre .1 .1)) in omega arith
+add-get3 : tie.Need-add-get3
+add-get3 c = let p = c .before .before .before .before .before .before .before .before .before .before .before in let r = p .args .b + p .args .d in let h = p .pre .0 .sound .ends .camera r (omega (arith, p .pre .1 .1)) in let k = p .pre .0 .sound .ends .target r (omega arith) (omega (arith, p .pre .1 .1)) in omega arith
 
-mul-pull-2 : tie.Need-mul-pull-2
-mul-pull-2 c = let h = c .before .before .before .before .before .before .before .before .before .before .before .pre .0 .sound .ends .camera (c .before .before .before .before .before .before .before .before .before .before .before .args .b + c .before .before .before .before .before .before .before .before .before .before .before .args .d) (omega (arith, c .before .before .before .before .before .before .before .before .before .before .before .pre .1 .1)) in let k = c .before .before .before .before .before .before .before .before .before .before .before .pre .0 .sound .ends .target (c .before .before .before .before .before .before .before .before .before .before .before .args .b + c .before .before .before .before .before .before .before .before .before .before .before .args .d) (omega arith) (omega (arith, c .before .before .before .before .before .before .before .before .before .before .before .pre .1 .1)) in omega arith
+get3-requires : tie.Need-get3-requires
+get3-requires c κs = let p = c .before .before .before .before .before .before .before .before .before .before .before in let r = p .args .b + p .args .d in let h = p .pre .0 .sound .ends .camera r (omega (arith, p .pre .1 .1)) in let k = p .pre .0 .sound .ends .target r (omega arith) (omega (arith, p .pre .1 .1)) in omega arith
 
-add-pull-2 : tie.Need-add-pull-2
-add-pull-2 c = let h = c .before .before .before .before .before .before .before .before .before .before .before .pre .0 .sound .ends .camera (c .before .before .before .before .before .before .before .before .before .before .before .args .b + c .before .before .before .before .before .before .before .before .before .before .before .args .d) (omega (arith, c .before .before .before .before .before .before .before .before .before .before .before .pre .1 .1)) in let k = c .before .before .before .before .before .before .before .before .before .before .before .pre .0 .sound .ends .target (c .before .before .before .before .before .before .before .before .before .before .before .args .b + c .before .before .before .before .before .before .before .before .before .before .before .args .d) (omega arith) (omega (arith, c .before .before .before .before .before .before .before .before .before .before .before .pre .1 .1)) in omega arith
+mul-get3-2 : tie.Need-mul-get3-2
+mul-get3-2 c = let p = c .before .before .before .before .before .before .before .before .before .before .before .before .before in let r = p .args .b + p .args .d in let h = p .pre .0 .sound .ends .camera r (omega (arith, p .pre .1 .1)) in let k = p .pre .0 .sound .ends .target r (omega arith) (omega (arith, p .pre .1 .1)) in omega arith
 
-mul-pull-3 : tie.Need-mul-pull-3
-mul-pull-3 c = search needs
+add-get3-2 : tie.Need-add-get3-2
+add-get3-2 c = let p = c .before .before .before .before .before .before .before .before .before .before .before .before .before in let r = p .args .b + p .args .d in let h = p .pre .0 .sound .ends .camera r (omega (arith, p .pre .1 .1)) in let k = p .pre .0 .sound .ends .target r (omega arith) (omega (arith, p .pre .1 .1)) in omega arith
 
-mul-pull-4 : tie.Need-mul-pull-4
-mul-pull-4 c = search needs
+get3-requires-2 : tie.Need-get3-requires-2
+get3-requires-2 c κs = let p = c .before .before .before .before .before .before .before .before .before .before .before .before .before in let r = p .args .b + p .args .d in let h = p .pre .0 .sound .ends .camera r (omega (arith, p .pre .1 .1)) in let k = p .pre .0 .sound .ends .target r (omega arith) (omega (arith, p .pre .1 .1)) in omega arith
 
-add-pull-3 : tie.Need-add-pull-3
-add-pull-3 c = search needs
+mul-at : tie.Need-mul-at
+mul-at c = search needs
 
-add-pull-4 : tie.Need-add-pull-4
-add-pull-4 c = search needs
+mul-at-2 : tie.Need-mul-at-2
+mul-at-2 c = search needs
 
-mul-pull-5 : tie.Need-mul-pull-5
-mul-pull-5 c = search needs
+add-at : tie.Need-add-at
+add-at c = search needs
 
-slice-reshared-read-pull : tie.Need-slice-reshared-read-pull
-slice-reshared-read-pull c = search needs
+add-row-pull : tie.Need-add-row-pull
+add-row-pull c = search needs
 
-pull-requires : tie.Need-pull-requires
-pull-requires c κs = let h = c .before .before .before .before .before .before .before .before .before .before .before .pre .0 .sound .ends .camera (c .before .before .before .before .before .before .before .before .before .before .before .args .b + c .before .before .before .before .before .before .before .before .before .before .before .args .d) (omega (arith, c .before .before .before .before .before .before .before .before .before .before .before .pre .1 .1)) in let k = c .before .before .before .before .before .before .before .before .before .before .before .pre .0 .sound .ends .target (c .before .before .before .before .before .before .before .before .before .before .before .args .b + c .before .before .before .before .before .before .before .before .before .before .before .args .d) (omega arith) (omega (arith, c .before .before .before .before .before .before .before .before .before .before .before .pre .1 .1)) in omega arith
+add-row-pull-2 : tie.Need-add-row-pull-2
+add-row-pull-2 c = search needs
+
+row-pull-requires : tie.Need-row-pull-requires
+row-pull-requires c κs = search needs
 
 lose-requires : tie.Need-lose-requires
-lose-requires c κs = let h = c .before .before .before .before .before .before .before .before .before .before .before .before .before .pre .0 .sound .ends .camera (c .before .before .before .before .before .before .before .before .before .before .before .before .before .args .b + c .before .before .before .before .before .before .before .before .before .before .before .before .before .args .d) (omega (arith, c .before .before .before .before .before .before .before .before .before .before .before .before .before .pre .1 .1)) in let k = c .before .before .before .before .before .before .before .before .before .before .before .before .before .pre .0 .sound .ends .target (c .before .before .before .before .before .before .before .before .before .before .before .before .before .args .b + c .before .before .before .before .before .before .before .before .before .before .before .before .before .args .d) (omega arith) (omega (arith, c .before .before .before .before .before .before .before .before .before .before .before .before .before .pre .1 .1)) in omega arith
+lose-requires c κs = let p = c .before .before .before .before .before .before .before .before .before .before .before .before .before .before .before .before .before in let r = p .args .b + p .args .d in let h = p .pre .0 .sound .ends .camera r (omega (arith, p .pre .1 .1)) in let k = p .pre .0 .sound .ends .target r (omega arith) (omega (arith, p .pre .1 .1)) in omega arith
 
 gain-requires : tie.Need-gain-requires
-gain-requires c κs = let h = c .before .before .before .before .before .before .before .before .before .before .before .before .before .before .before .before .before .pre .0 .sound .ends .camera (c .before .before .before .before .before .before .before .before .before .before .before .before .before .before .before .before .before .args .b + c .before .before .before .before .before .before .before .before .before .before .before .before .before .before .before .before .before .args .d) (omega (arith, c .before .before .before .before .before .before .before .before .before .before .before .before .before .before .before .before .before .pre .1 .1)) in let k = c .before .before .before .before .before .before .before .before .before .before .before .before .before .before .before .before .before .pre .0 .sound .ends .target (c .before .before .before .before .before .before .before .before .before .before .before .before .before .before .before .before .before .args .b + c .before .before .before .before .before .before .before .before .before .before .before .before .before .before .before .before .before .args .d) (omega arith) (omega (arith, c .before .before .before .before .before .before .before .before .before .before .before .before .before .before .before .before .before .pre .1 .1)) in omega arith
+gain-requires c κs = let p = c .before .before .before .before .before .before .before .before .before .before .before .before .before .before .before .before .before .before .before .before .before in let r = p .args .b + p .args .d in let h = p .pre .0 .sound .ends .camera r (omega (arith, p .pre .1 .1)) in let k = p .pre .0 .sound .ends .target r (omega arith) (omega (arith, p .pre .1 .1)) in omega arith
 
 same-length : tie.Need-same-length
 same-length c = search needs
 
 returns : tie.Need-returns
-returns c = direction-done _ _ (c .before .before .before .before .before .before .before .before .before .before .before .before .before .before .before .before .before .before .before .before .pre .0) _ _ _ _ _ _ _ (c .before .before .before .before .before .before .before .before .before .before .before .before .before .before .before .before .before .before .before .before .pre .1 .0) (c .before .before .before .before .before .before .before .before .before .before .before .before .before .before .before .before .before .before .before .before .pre .1 .1) (c .before .before .before .before .before .before .before .before .pull .ensures) (c .before .before .before .before .before .before .lose .ensures) (c .before .before .gain .ensures)
+returns c = direction-done _ _ (c .before .before .before .before .before .before .before .before .before .before .before .before .before .before .before .before .before .before .before .before .before .before .before .before .pre .0) _ _ _ _ _ _ _ (c .before .before .before .before .before .before .before .before .before .before .before .before .before .before .before .before .before .before .before .before .before .before .before .before .pre .1 .0) (c .before .before .before .before .before .before .before .before .before .before .before .before .before .before .before .before .before .before .before .before .before .before .before .before .pre .1 .1) (c .before .before .before .before .before .before .before .before .row-pull .ensures ∙ rw (c .before .before .before .before .before .before .before .before .before .before .before .before .get3 .ensures, c .before .before .before .before .before .before .before .before .before .before .get32 .ensures)) (c .before .before .before .before .before .before .lose .ensures) (c .before .before .gain .ensures)
 
 pub direction-step-spec : {M : Type 1} → statement M
 direction-step-spec =
@@ -86,17 +90,18 @@ direction-step-spec =
     add-t
     mul-t-2
     shared-slice-read-t
-    mul-pull
-    add-pull
-    mul-pull-2
-    add-pull-2
-    mul-pull-3
-    mul-pull-4
-    add-pull-3
-    add-pull-4
-    mul-pull-5
-    slice-reshared-read-pull
-    pull-requires
+    mul-get3
+    add-get3
+    get3-requires
+    mul-get3-2
+    add-get3-2
+    get3-requires-2
+    mul-at
+    mul-at-2
+    add-at
+    add-row-pull
+    add-row-pull-2
+    row-pull-requires
     lose-requires
     gain-requires
     same-length

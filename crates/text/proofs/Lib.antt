@@ -1,0 +1,4 @@
+pub mod Case
+pub mod Digits
+pub mod Puts
+pub mod Lines

@@ -1,0 +1,212 @@
+// What the solve program prints, into a lent buffer of bytes.
+use double::to_bits;
+use field::Vec3;
+use field::get3;
+ghost use mathlib.Core.Path.{_≡_};
+ghost use mathlib.Core.List.{[], _∷_, _++_};
+ghost use Prim.Native.Nat.{_+_, _*_, _/_, _≤_, _<_};
+ghost use lib.Dec.{leb};
+ghost use lib.ListN.{length};
+ghost use Rattle.text.specs.Text.{digit, hex, decimal, spaced, named, vectorLine, vectorLines, countsLine, partsLine, reportLine, placedText, refusedText};
+ghost use Rattle.text.specs.Lent.{Put, room, fitting, vectorsOf};
+
+// A byte. Each `put_` writes from place `at` on, and answers the place after what it wrote.
+fn put_byte(out: &mut [u8], at: usize, x: u8) -> usize
+    requires { ⌜ at + 1 ≤ length (now out) ⌝ }
+    ensures { λ r. ⌜ Put (now (out .entry)) (now (out .exit)) at (x ∷ []) 1 r ⌝ }
+{
+    out[at] = x;
+    at + 1
+}
+
+// Some bytes as they are.
+fn put_bytes(out: &mut [u8], at: usize, src: &[u8]) -> usize
+    requires { ⌜ at + length (now src) ≤ length (now out) ⌝ }
+    ensures { λ r. ⌜ Put (now (out .entry)) (now (out .exit)) at (now (src .entry)) (length (now (src .entry))) r ⌝ }
+{
+    let mut i = 0usize;
+    while i < src.len() {
+        out[at + i] = src[i];
+        i += 1;
+    }
+    at + i
+}
+
+// A digit below 16 as a byte.
+fn digit_byte(d: usize) -> u8
+    requires { ⌜ d < 16 ⌝ }
+    ensures { λ r. ⌜ r ≡ digit d ⌝ }
+{
+    if d < 10 {
+        return 48 + d as u8;
+    }
+    87 + d as u8
+}
+
+// The last k hex digits of x.
+fn put_hex(out: &mut [u8], at: usize, k: usize, x: usize) -> usize
+    requires { ⌜ at + k ≤ length (now out) ⌝ }
+    ensures { λ r. ⌜ Put (now (out .entry)) (now (out .exit)) at (hex k x) k r ⌝ }
+{
+    if k == 0 {
+        return at;
+    }
+    let next = put_hex(out, at, k - 1, x / 16);
+    put_byte(out, next, digit_byte(x % 16))
+}
+
+// x in decimal, which takes at most 20 digits.
+fn put_decimal(out: &mut [u8], at: usize, x: usize) -> usize
+    requires { ⌜ at + 20 ≤ length (now out) ⌝ }
+    ensures { λ r. ⌜ Put (now (out .entry)) (now (out .exit)) at (decimal x) 20 r ⌝ }
+{
+    if x < 10 {
+        return put_byte(out, at, digit_byte(x));
+    }
+    let next = put_decimal(out, at, x / 10);
+    put_byte(out, next, digit_byte(x % 10))
+}
+
+// A space and the bits of x.
+fn put_spaced(out: &mut [u8], at: usize, x: f64) -> usize
+    requires { ⌜ at + 17 ≤ length (now out) ⌝ }
+    ensures { λ r. ⌜ Put (now (out .entry)) (now (out .exit)) at (spaced x) 17 r ⌝ }
+{
+    let next = put_byte(out, at, b' ');
+    let bits = to_bits(x);
+    put_hex(out, next, 16, bits as usize)
+}
+
+// A label and a number.
+fn put_named(out: &mut [u8], at: usize, label: &[u8], x: usize) -> usize
+    requires { ⌜ at + (length (now label) + 20) ≤ length (now out) ⌝ }
+    ensures { λ r. ⌜ Put (now (out .entry)) (now (out .exit)) at (named (now (label .entry)) x) (length (now (label .entry)) + 20) r ⌝ }
+{
+    let next = put_bytes(out, at, label);
+    put_decimal(out, next, x)
+}
+
+// The line of the i-th camera or point.
+fn put_vector_line(out: &mut [u8], at: usize, tag: u8, i: usize, v: Vec3) -> usize
+    requires { ⌜ at + 74 ≤ length (now out) ⌝ }
+    ensures { λ r. ⌜ Put (now (out .entry)) (now (out .exit)) at (vectorLine tag i v) 74 r ⌝ }
+{
+    let label = [tag, b' '];
+    let next = put_named(out, at, &label, i);
+    let next = put_spaced(out, next, v.x);
+    let next = put_spaced(out, next, v.y);
+    let next = put_spaced(out, next, v.z);
+    put_byte(out, next, b'\n')
+}
+
+// The lines of the cameras or points whose numbers are s.
+fn put_vectors(out: &mut [u8], at: usize, tag: u8, s: &[f64]) -> usize
+    requires { ⌜ at + 74 * (length (now s) / 3) ≤ length (now out) ⌝ }
+    ensures { λ r. ⌜ Put (now (out .entry)) (now (out .exit)) at (vectorLines tag (vectorsOf (now (s .entry)))) (74 * (length (now (s .entry)) / 3)) r ⌝ }
+{
+    let n = s.len() / 3;
+    let mut next = at;
+    let mut i = 0usize;
+    while i < n {
+        next = put_vector_line(out, next, tag, i, get3(s, 3 * i));
+        i += 1;
+    }
+    next
+}
+
+// The line of the counts.
+fn put_counts(out: &mut [u8], at: usize, n: usize, m: usize, b: usize, e: usize) -> usize
+    requires { ⌜ at + 119 ≤ length (now out) ⌝ }
+    ensures { λ r. ⌜ Put (now (out .entry)) (now (out .exit)) at (countsLine n m b e) 119 r ⌝ }
+{
+    let next = put_named(out, at, b"cameras ", n);
+    let next = put_named(out, next, b" points ", m);
+    let next = put_named(out, next, b" bearings ", b);
+    let next = put_named(out, next, b" directions ", e);
+    put_byte(out, next, b'\n')
+}
+
+// The line of the number of parts.
+fn put_parts(out: &mut [u8], at: usize, parts: usize) -> usize
+    requires { ⌜ at + 27 ≤ length (now out) ⌝ }
+    ensures { λ r. ⌜ Put (now (out .entry)) (now (out .exit)) at (partsLine parts) 27 r ⌝ }
+{
+    let next = put_named(out, at, b"parts ", parts);
+    put_byte(out, next, b'\n')
+}
+
+// The line of the report.
+fn put_report(out: &mut [u8], at: usize, anchor: usize, route: usize, rounds: usize) -> usize
+    requires { ⌜ at + 83 ≤ length (now out) ⌝ }
+    ensures { λ r. ⌜ Put (now (out .entry)) (now (out .exit)) at (reportLine anchor route rounds) 83 r ⌝ }
+{
+    let next = put_named(out, at, b"anchor ", anchor);
+    let next = put_named(out, next, b" route ", route);
+    let next = put_named(out, next, b" rounds ", rounds);
+    put_byte(out, next, b'\n')
+}
+
+// The three lines above those of the vectors.
+fn put_head(
+    out: &mut [u8],
+    at: usize,
+    n: usize,
+    m: usize,
+    b: usize,
+    e: usize,
+    parts: usize,
+    anchor: usize,
+    route: usize,
+    rounds: usize,
+) -> usize
+    requires { ⌜ at + 229 ≤ length (now out) ⌝ }
+    ensures { λ r. ⌜ Put (now (out .entry)) (now (out .exit)) at (countsLine n m b e ++ partsLine parts ++ reportLine anchor route rounds) 229 r ⌝ }
+{
+    let next = put_counts(out, at, n, m, b, e);
+    let next = put_parts(out, next, parts);
+    put_report(out, next, anchor, route, rounds)
+}
+
+// Whether the buffer has room for the lines of so many vectors and those before them.
+fn has_room(vectors: usize, out: &[u8]) -> bool
+    ensures { λ r. ⌜ r ≡ leb (room vectors) (length (now (out .entry))) ⌝ }
+{
+    256 <= out.len() && vectors <= (out.len() - 256) / 74
+}
+
+// What a solve that is not refused prints, at the front of `out`. `cameras` and `points` hold three numbers for each.
+// The answer is the number of bytes written: 0, and `out` stays as it was, where it is shorter than 256 bytes and 74 for each vector.
+pub fn put_placed(
+    n: usize,
+    m: usize,
+    b: usize,
+    e: usize,
+    parts: usize,
+    anchor: usize,
+    route: usize,
+    rounds: usize,
+    cameras: &[f64],
+    points: &[f64],
+    out: &mut [u8],
+) -> usize
+    ensures { λ r. ⌜ Put (now (out .entry)) (now (out .exit)) 0 (fitting (length (now (cameras .entry)) / 3 + length (now (points .entry)) / 3) (now (out .entry)) (placedText n m b e parts anchor route rounds (vectorsOf (now (cameras .entry))) (vectorsOf (now (points .entry))))) (length (now (out .entry))) r ⌝ }
+{
+    if !has_room(cameras.len() / 3 + points.len() / 3, out) {
+        return 0;
+    }
+    let next = put_head(out, 0, n, m, b, e, parts, anchor, route, rounds);
+    let next = put_vectors(out, next, b'c', cameras);
+    put_vectors(out, next, b'p', points)
+}
+
+// What a refusal prints, at the front of `out`. The answer is the number of bytes written: 0, and `out` stays as it was, where it is shorter than 256 bytes.
+pub fn put_refused(number: usize, place: usize, out: &mut [u8]) -> usize
+    ensures { λ r. ⌜ Put (now (out .entry)) (now (out .exit)) 0 (fitting 0 (now (out .entry)) (refusedText number place)) (length (now (out .entry))) r ⌝ }
+{
+    if !has_room(0, out) {
+        return 0;
+    }
+    let next = put_named(out, 0, b"refused ", number);
+    let next = put_named(out, next, b" place ", place);
+    put_byte(out, next, b'\n')
+}
