@@ -1,0 +1,90 @@
+-- What stands in an image (document 01, 'Network image').
+use Prim.Native.Nat.{ℕ, zero, suc, _+_, _*_, _/_, _%_, _≤_, _<_}
+use mathlib.Core.List.{List}
+use mathlib.Core.Path.{_≡_}
+use mathlib.Core.Bool.{true}
+use lib.ListN.{length}
+use lib.Ieee.{Float}
+use lib.Ieee.Scale.{finite}
+use Rattle.field.specs.Count.{field}
+use Rattle.network.specs.Network.{Shape, shape, rows}
+use Rattle.layout.specs.Bytes.{u32At, doubleAt}
+use Rattle.layout.specs.Image.{Content, content, headSize}
+
+-- offset and length of pair i
+abbrev pub offsetAt : List ℕ → ℕ → ℕ
+offsetAt l i = u32At l (4 + 8 * i)
+
+abbrev pub lengthAt : List ℕ → ℕ → ℕ
+lengthAt l i = u32At l (8 + 8 * i)
+
+-- of k sections, where section i must start: where the pairs or the section before ended (exact numbers: nothing wraps)
+unfoldable pub startOf : ℕ → List ℕ → ℕ → ℕ
+startOf k l zero = headSize k
+startOf k l (suc i) = offsetAt l i + lengthAt l i
+
+-- the counts, from place p on
+abbrev pub shapeAt : ℕ → List ℕ → Shape
+shapeAt p l = shape (u32At l p) (u32At l (p + 4)) (u32At l (p + 8)) (u32At l (p + 12))
+
+-- the place of number k of those that lie `group` to a row, each `width` bytes, in rows of `stride` bytes, the first at `start`
+abbrev pub spread : ℕ → ℕ → ℕ → ℕ → ℕ → ℕ
+spread start stride width group k = start + stride * (k / group) + width * (k % group)
+
+-- n numbers that lie so
+unfoldable pub wholesFrom : ℕ → ℕ → ℕ → ℕ → List ℕ → List ℕ
+wholesFrom start stride group n l = field n (λ k. u32At l (spread start stride 4 group k))
+
+unfoldable pub doublesFrom : ℕ → ℕ → ℕ → ℕ → List ℕ → List Float
+doublesFrom start stride group n l = field n (λ k. doubleAt l (spread start stride 8 group k))
+
+-- ends, rays, weights and scales of r rows that start at p
+abbrev pub endsFrom : ℕ → ℕ → List ℕ → List ℕ
+endsFrom p r l = wholesFrom p 48 2 (2 * r) l
+
+abbrev pub raysFrom : ℕ → ℕ → List ℕ → List Float
+raysFrom p r l = doublesFrom (p + 8) 48 3 (3 * r) l
+
+abbrev pub weightsFrom : ℕ → ℕ → List ℕ → List Float
+weightsFrom p r l = doublesFrom (p + 32) 48 1 r l
+
+abbrev pub scalesFrom : ℕ → ℕ → List ℕ → List Float
+scalesFrom p r l = doublesFrom (p + 40) 48 1 r l
+
+-- m points that start at p
+abbrev pub pointsFrom : ℕ → ℕ → List ℕ → List Float
+pointsFrom p m l = doublesFrom p 24 3 (3 * m) l
+
+-- the network of shape s whose rows start at p and whose points follow them
+unfoldable pub contentFrom : ℕ → Shape → List ℕ → Content
+contentFrom p s l =
+    content s (endsFrom p (rows s) l) (raysFrom p (rows s) l) (weightsFrom p (rows s) l) (scalesFrom p (rows s) l) (pointsFrom (p + 48 * rows s) (s .points) l)
+
+-- what an image of k sections holds: its counts are the first section, the rows follow them
+abbrev pub contentIn : ℕ → List ℕ → Content
+contentIn k l = contentFrom (headSize k + 16) (shapeAt (headSize k) l) l
+
+-- version 1
+abbrev pub contentOf : List ℕ → Content
+contentOf l = contentIn 4 l
+
+-- the n doubles that lie so are there and finite
+abbrev pub Readable : ℕ → ℕ → ℕ → ℕ → List ℕ → Type 0
+Readable start stride group n l =
+    (k : ℕ) → k < n → (spread start stride 8 group k + 8 ≤ length l) × (finite (doubleAt l (spread start stride 8 group k)) ≡ true)
+
+-- what the reader's tests have shown where they refuse nothing. The functions that store require it.
+pub record Sound (p r m : ℕ) (l : List ℕ) : Type 0 where
+  pub there : p + 48 * r + 24 * m ≤ length l
+  pub rays : Readable (p + 8) 48 3 (3 * r) l
+  pub weights : Readable (p + 32) 48 1 r l
+  pub scales : Readable (p + 40) 48 1 r l
+  pub positions : Readable (p + 48 * r) 24 3 (3 * m) l
+
+-- the five lists that the reader fills
+pub record Filled (p r m : ℕ) (l : List ℕ) (es : List ℕ) (rs ws ss ps : List Float) : Type 0 where
+  pub ends : es ≡ endsFrom p r l
+  pub rays : rs ≡ raysFrom p r l
+  pub weights : ws ≡ weightsFrom p r l
+  pub scales : ss ≡ scalesFrom p r l
+  pub positions : ps ≡ pointsFrom (p + 48 * r) m l
