@@ -19,6 +19,14 @@ use Rattle.placement.specs.declared.Answer.{Answer}
 use Rattle.placement.specs.declared.Answer.the-variants as solving
 use Rattle.placement.specs.Routes.{Submission}
 use Rattle.placement.specs.Solved.{Solved}
+use Rattle.layout.specs.Image.{Content}
+use Rattle.image.specs.declared.Sizes.{Sizes}
+use Rattle.image.specs.declared.Counted.{Counted}
+use Rattle.image.specs.declared.Counted.the-variants as counted
+use Rattle.image.specs.declared.Written.{Written}
+use Rattle.image.specs.declared.Written.the-variants as written
+use Rattle.image.specs.Calls.{countsOf, Reads, Writes}
+use Rattle.lists.specs.Listed.{Listed}
 
 -- connected is 1, not connected 0
 abbrev pub connectivityCode : Connectivity → ℕ
@@ -66,6 +74,27 @@ answerCode (solving.Accepted p) = 0
 abbrev pub answerReport : Answer → List ℕ → List ℕ
 answerReport (solving.Refused r) old = set old 0 (r .place)
 answerReport (solving.Accepted p) old = set (set (set old 0 (p .anchor)) 1 (p .route)) 2 (p .rounds)
+
+-- an image's report has four numbers: n, m, B, E
+abbrev pub sizesReport : Sizes → List ℕ → List ℕ
+sizesReport s old = set (set (set (set old 0 (s .n)) 1 (s .m)) 2 (s .b)) 3 (s .e)
+
+abbrev pub countedCode : Counted → ℕ
+countedCode (counted.Refused r) = r .number
+countedCode (counted.Of s) = 0
+
+abbrev pub countedReport : Counted → List ℕ → List ℕ
+countedReport (counted.Refused r) old = set old 0 (r .place)
+countedReport (counted.Of s) old = sizesReport s old
+
+-- the bytes written
+abbrev pub writtenCode : Written → ℕ
+writtenCode (written.Refused r) = r .number
+writtenCode (written.Bytes k) = 0
+
+abbrev pub writtenReport : Written → ℕ
+writtenReport (written.Refused r) = r .place
+writtenReport (written.Bytes k) = k
 
 -- ---- the calls, with the answer that the Rattle function gives
 
@@ -115,3 +144,31 @@ pub record Unreported (code : ℕ) (work work' cameras cameras' points points' :
 pub record SolveCall (i : Submission) (code : ℕ) (work work' cameras cameras' points points' : List Float) (report report' : List ℕ) : Type 0 where
   pub whole : length report ≡ 3 → Reported i code work work' cameras cameras' points points' report report'
   pub otherwise : (length report ≡ 3 → ⊥) → Unreported code work work' cameras cameras' points points' report report'
+
+-- the bytes l of an image
+pub record CountsCall (l : List ℕ) (code : ℕ) (report report' : List ℕ) : Type 0 where
+  pub whole : length report ≡ 4 → (code ≡ countedCode (countsOf l)) × (report' ≡ countedReport (countsOf l) report)
+  pub otherwise : (length report ≡ 4 → ⊥) → (code ≡ 3) × (report' ≡ report)
+
+-- where the report has four numbers; `left` is what the five lists of `lent` hold after the call
+pub record ReadReported (l : List ℕ) (lent left : Content) (code : ℕ) (report report' : List ℕ) : Type 0 where
+  pub answer : Counted
+  pub call : Reads l lent answer left
+  pub coded : code ≡ countedCode answer
+  pub reported : report' ≡ countedReport answer report
+
+pub record ReadCall (l : List ℕ) (lent left : Content) (code : ℕ) (report report' : List ℕ) : Type 0 where
+  pub whole : length report ≡ 4 → ReadReported l lent left code report report'
+  pub otherwise : (length report ≡ 4 → ⊥) → (code ≡ 3) × (left ≡ lent) × (report' ≡ report)
+
+pub record WriteCall (c : Content) (out out' : List ℕ) (code : ℕ) (report report' : List ℕ) : Type 0 where
+  pub answer : Written
+  pub call : Writes c out answer out'
+  pub coded : code ≡ writtenCode answer
+  pub reported : report' ≡ set report 0 (writtenReport answer)
+
+pub record ListCall (m b : ℕ) (ends offsets offsets' rows rows' : List ℕ) (code : ℕ) (report report' : List ℕ) : Type 0 where
+  pub answer : Verdict
+  pub call : Listed m b ends offsets rows answer offsets' rows'
+  pub coded : code ≡ verdictCode answer
+  pub reported : report' ≡ set report 0 (verdictReport answer)

@@ -10,9 +10,14 @@ ghost use Rattle.network.specs.Network.{lent, shape, graph as graphOf};
 ghost use Rattle.network.specs.Refusals.{lengthOf};
 ghost use Rattle.recover.specs.Contracts.{placed as placedOf};
 ghost use Rattle.placement.specs.Routes.{submission};
-ghost use Rattle.exports.specs.Codes.{connectivityCode, connectivityReport, listingCode, listingReport, lengthCode, lengthReport, verdictCode, verdictReport, answerCode, answerReport, ConnectedCall, PartsCall, LengthCall, DotsCall, ScalesCall, SolveCall};
+ghost use Rattle.layout.specs.Image.{content};
+ghost use Rattle.image.specs.Reading.{shapeAt};
+ghost use Rattle.exports.specs.Codes.{connectivityCode, connectivityReport, listingCode, listingReport, lengthCode, lengthReport, verdictCode, verdictReport, answerCode, answerReport, countedCode, countedReport, sizesReport, writtenCode, writtenReport, ConnectedCall, PartsCall, LengthCall, DotsCall, ScalesCall, SolveCall, CountsCall, ReadCall, WriteCall, ListCall};
 use graph::Connectivity;
 use graph::Listing;
+use image::Counted;
+use image::Sizes;
+use image::Written;
 use network::Length;
 use network::Verdict;
 use placement::Answer;
@@ -324,4 +329,131 @@ pub extern "C" fn vobzeile_solve(
     );
     put_answer(report, answer);
     answer_code(answer)
+}
+
+fn counted_code(a: Counted) -> usize
+    ensures { λ r. ⌜ r ≡ countedCode a ⌝ }
+{
+    match a {
+        Counted::Refused(r) => r.number,
+        Counted::Of(_) => 0,
+    }
+}
+
+// n, m, B, E in a report of four numbers.
+fn put_sizes(report: &mut [usize], s: Sizes)
+    requires { ⌜ length (now report) ≡ 4 ⌝ }
+    ensures { λ _. ⌜ now (report .exit) ≡ sizesReport s (now (report .entry)) ⌝ }
+{
+    report[0] = s.n;
+    report[1] = s.m;
+    report[2] = s.b;
+    report[3] = s.e;
+}
+
+// The place of a refusal, or the four counts.
+fn put_counted(report: &mut [usize], a: Counted)
+    requires { ⌜ length (now report) ≡ 4 ⌝ }
+    ensures { λ _. ⌜ now (report .exit) ≡ countedReport a (now (report .entry)) ⌝ }
+{
+    match a {
+        Counted::Refused(r) => {
+            report[0] = r.place;
+        }
+        Counted::Of(s) => {
+            put_sizes(report, s);
+        }
+    }
+}
+
+fn written_code(a: Written) -> usize
+    ensures { λ r. ⌜ r ≡ writtenCode a ⌝ }
+{
+    match a {
+        Written::Refused(r) => r.number,
+        Written::Bytes(_) => 0,
+    }
+}
+
+fn written_report(a: Written) -> usize
+    ensures { λ r. ⌜ r ≡ writtenReport a ⌝ }
+{
+    match a {
+        Written::Refused(r) => r.place,
+        Written::Bytes(k) => k,
+    }
+}
+
+// The counts of an image: 0 with n, m, B, E in the report, or the refusal's number with its place as the report's first number. A report that
+// has not four numbers is refused before all else, by 3, and nothing is changed.
+#[no_mangle]
+pub extern "C" fn vobzeile_counts(bytes: &[u8], report: &mut [usize]) -> usize
+    ensures { λ r. ⌜ CountsCall (now (bytes .entry)) r (now (report .entry)) (now (report .exit)) ⌝ }
+{
+    if report.len() != 4 {
+        return 3;
+    }
+    let answer = image::counts(bytes);
+    put_counted(report, answer);
+    counted_code(answer)
+}
+
+// Reads an image into slices that its counts fit; code and report as of the counts.
+#[no_mangle]
+pub extern "C" fn vobzeile_read(
+    bytes: &[u8],
+    ends: &mut [usize],
+    rays: &mut [f64],
+    weights: &mut [f64],
+    scales: &mut [f64],
+    points: &mut [f64],
+    report: &mut [usize],
+) -> usize
+    ensures { λ r. ⌜ ReadCall (now (bytes .entry)) (content (shapeAt 36 (now (bytes .entry))) (now (ends .entry)) (now (rays .entry)) (now (weights .entry)) (now (scales .entry)) (now (points .entry))) (content (shapeAt 36 (now (bytes .entry))) (now (ends .exit)) (now (rays .exit)) (now (weights .exit)) (now (scales .exit)) (now (points .exit))) r (now (report .entry)) (now (report .exit)) ⌝ }
+{
+    if report.len() != 4 {
+        return 3;
+    }
+    let answer = image::read(bytes, ends, rays, weights, scales, points);
+    put_counted(report, answer);
+    counted_code(answer)
+}
+
+// Writes the image of a network: 0 with the bytes written in the report, or the refusal's number with its place there.
+#[no_mangle]
+pub extern "C" fn vobzeile_write(
+    n: usize,
+    m: usize,
+    b: usize,
+    e: usize,
+    ends: &[usize],
+    rays: &[f64],
+    weights: &[f64],
+    scales: &[f64],
+    points: &[f64],
+    out: &mut [u8],
+    report: &mut [usize],
+) -> usize
+    ensures { λ r. ⌜ WriteCall (content (shape n m b e) (now (ends .entry)) (now (rays .entry)) (now (weights .entry)) (now (scales .entry)) (now (points .entry))) (now (out .entry)) (now (out .exit)) r (now (report .entry)) (now (report .exit)) ⌝ }
+{
+    let answer = image::write(n, m, b, e, ends, rays, weights, scales, points, out);
+    put(report, written_report(answer));
+    written_code(answer)
+}
+
+// The point lists of a network's rows: 0, or the refusal's number with its place in the report.
+#[no_mangle]
+pub extern "C" fn vobzeile_list_points(
+    m: usize,
+    b: usize,
+    ends: &[usize],
+    offsets: &mut [usize],
+    rows: &mut [usize],
+    report: &mut [usize],
+) -> usize
+    ensures { λ r. ⌜ ListCall m b (now (ends .entry)) (now (offsets .entry)) (now (offsets .exit)) (now (rows .entry)) (now (rows .exit)) r (now (report .entry)) (now (report .exit)) ⌝ }
+{
+    let verdict = lists::list_points(m, b, ends, offsets, rows);
+    put(report, verdict_report(verdict));
+    verdict_code(verdict)
 }

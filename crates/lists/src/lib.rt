@@ -1,0 +1,27 @@
+// The point lists of a network, built from its rows.
+mod entry;
+mod sort;
+
+use entry::check;
+use network::Verdict;
+use sort::sort_rows;
+ghost use mathlib.Core.Path.{_≡_};
+ghost use Rattle.lists.specs.Listed.{Listed};
+
+// Fills the m + 1 offsets and the b row numbers of the point lists. `ends` holds camera and point of each bearing, and may hold directions after them.
+pub fn list_points(
+    m: usize,
+    b: usize,
+    ends: &[usize],
+    offsets: &mut [usize],
+    rows: &mut [usize],
+) -> Verdict
+    ensures { λ r. ⌜ Listed m b (now (ends .entry)) (now (offsets .entry)) (now (rows .entry)) r (now (offsets .exit)) (now (rows .exit)) ⌝ }
+{
+    let verdict = check(m, b, ends, offsets.len(), rows.len());
+    if let Verdict::Refused(r) = verdict {
+        return Verdict::Refused(r);
+    }
+    sort_rows(m, b, ends, offsets, rows);
+    Verdict::Passed
+}
