@@ -1,54 +1,57 @@
--- The ● rows of document 01's 'Values at the edges': one table, a field for each row, of facts about the definitions.
+-- Document 01's 'Values at the edges': one table, a field for each row, of facts about the definitions.
 -- The claim that all of them hold is `edges` of proofs/Claim.
 use mathlib.Core.Path.{_≡_}
 use mathlib.Core.Bool.{false}
 use mathlib.Core.List.{[], _∷_}
-use Prim.Native.Nat.{ℕ}
 use lib.IntN.{pos, negsuc}
-use lib.Ieee.{fin, binary64, toBits, ofBits}
+use lib.Ieee.{Float, fin, binary64, toBits}
+use Rattle.field.specs.declared.Vec3.{Vec3}
 use Rattle.field.specs.Vec.{null, origin}
 use Rattle.sqrt.specs.Root.{root}
 use Rattle.network.specs.Network.{Graph, shape, graph}
 use Rattle.graph.specs.Joined.{Connected, Label}
 use Rattle.system.specs.System.{tiny, one, meanOffset, terms, termAt}
-use Rattle.system.specs.Edges.{single, minusTiny}
-use Rattle.recover.specs.Edges.{RecoverEdges}
-use Rattle.iterative.specs.Method.{State, ended, failed, solution}
-use Rattle.iterative.specs.Reduced.{problem}
-use Rattle.iterative.specs.Edges.{whole, overflowing}
-use Rattle.cholesky.specs.Cholesky.{stopped}
-use Rattle.dense.specs.Dense.{denseSolution}
+use Rattle.system.specs.Edges.{single, five, minusTiny}
+use Rattle.recover.specs.Edges.{RecoverEdges, GivesPoint, half, two}
+use Rattle.iterative.specs.Problem.{mostRounds}
 use Rattle.dense.specs.Edges.{pair, triple}
+use Rattle.placement.specs.Routes.{submission, placement, placed, report, failingAt}
 
 -- n=3, direction 0-1 weight 1, 1-2 weight 0
 abbrev pub twoParts : Graph
 twoParts = graph (shape 3 0 0 2) (0 ∷ 1 ∷ 1 ∷ 2 ∷ []) (one ∷ null ∷ [])
 
--- how the method ends on the whole case: camera 0, the anchor, at zero, after no round
-abbrev pub atRest : State
-atRest = record {
-  positions = origin ∷ [];
-  residual = origin ∷ [];
-  search = origin ∷ [];
-  round = record { old = origin; active = record { x = false; y = false; z = false }; count = 0 };
-}
+abbrev vec : Float → Float → Float → Vec3
+vec a b c = record { x = a; y = b; z = c }
+
+-- Camera 0 sees point 0 with this weight and scale, on the solve program's route 3 with limit 48; the work buffer has T = 28 numbers, the outputs 3 each.
+-- The solve is accepted: anchor 0, route 2, no round; camera 0 is at zero, and the point comes out as v.
+abbrev pub Solves : Float → Float → Vec3 → Type 0
+Solves w s v = (placement (submission (single w s) 3 48 28 3 3) ≡ placed (report 0 2 0) (origin ∷ [])) × GivesPoint w s v
 
 pub record Edges : Type 0 where
-  -- Root of 2^-1074 is 2^-537; of 2 has bits 3FF6A09E667F3BCD.
-  pub root-of-least : root binary64 (fin false 1 (negsuc 1073)) ≡ fin false 1 (negsuc 536)
-  pub root-of-two : toBits binary64 (root binary64 (fin false 1 (pos 1))) ≡ 0x3FF6_A09E_667F_3BCD
-  -- n=3, direction 0-1 weight 1, 1-2 weight 0: not connected, labels 0 0 2.
-  pub not-connected : Connected twoParts → ⊥
-  pub labels : Label twoParts 0 0 × Label twoParts 1 0 × Label twoParts 2 2
-  -- Weight 1e-12, scale 1: mean offset zero, yet assembled; right side z is -1e-12.
+  -- ● The case above (n=1, m=1, B=1, E=0, ray (0,0,1), weight 1, scale 0.5, old point (5,5,5)): point (0,0,2).
+  pub whole-case : Solves one half (vec null null two)
+  -- ● With weight 0: point stays (5,5,5).
+  pub weightless : Solves null half (vec five five five)
+  -- ● Weight 1e-12, scale 1: mean offset zero, yet assembled; right side z is -1e-12, point (0,0,1).
   pub faint-mean : meanOffset (single tiny one) 0 ≡ origin
   pub faint-right : termAt (terms (single tiny one)) 0 .right .z ≡ minusTiny
-  -- Scales: target x = 2 gives 0.5; -2 gives 1e-5; 2^-20 keeps; 2^-19 gives 524288. Points: (0,0,2); weight 0 keeps (5,5,5); weight 1e-12 gives (0,0,1).
+  pub faint-case : Solves tiny one (vec null null one)
+  -- ● n=2, one direction, weight 1e300, scale 1e10: route 2 gives 9 at camera 1, route 1 with limit 1 gives 15 at row 0.
+  pub diagonal-overflows : placement (submission pair 2 1 47 6 0) ≡ failingAt 9 1
+  pub pivot-overflows : placement (submission pair 1 1 51 6 0) ≡ failingAt 15 0
+  -- ● n=3, cameras 1 and 2 see point 0 with weight 1e200, camera 0 sees point 1 with 1e201, scales 1, limit 2: route 1 gives 16 at row 1.
+  pub entry-overflows : placement (submission triple 1 2 90 9 6) ≡ failingAt 16 1
+  -- ● Scales: target x = 2 gives 0.5; -2 gives 1e-5; 2^-20 keeps; 2^-19 gives 524288. Besides, the points of the first three rows.
   pub recovered : RecoverEdges
-  -- The whole case on route 2: camera 0 at zero, no round.
-  pub whole-case : solution (problem whole) ≡ ended atRest
-  -- n=2, one direction, weight 1e300, scale 1e10: route 2 gives 9 at camera 1, dense gives 15 at row 0.
-  pub overflow-iterative : solution (problem overflowing) ≡ failed 9 1
-  pub overflow-dense : denseSolution pair ≡ stopped 15 0
-  -- n=3, cameras 1 and 2 see point 0 with weight 1e200, camera 0 sees point 1 with 1e201, scales 1: dense gives 16 at row 1.
-  pub entry-overflows : denseSolution triple ≡ stopped 16 1
+  -- ● n=3, direction 0-1 weight 1, 1-2 weight 0: not connected, labels 0 0 2.
+  pub not-connected : Connected twoParts → ⊥
+  pub labels : Label twoParts 0 0 × Label twoParts 1 0 × Label twoParts 2 2
+  -- ● Root of 2^-1074 is 2^-537; of 2 has bits 3FF6A09E667F3BCD.
+  pub root-of-least : root binary64 (fin false 1 (negsuc 1073)) ≡ fin false 1 (negsuc 536)
+  pub root-of-two : toBits binary64 (root binary64 (fin false 1 (pos 1))) ≡ 0x3FF6_A09E_667F_3BCD
+  -- Most rounds: n=1 and 9 give 64, 10 gives 72, 501 and 502 give 4000.
+  pub most-rounds : (mostRounds 1 ≡ 64) × (mostRounds 9 ≡ 64) × (mostRounds 10 ≡ 72) × (mostRounds 501 ≡ 4000) × (mostRounds 502 ≡ 4000)
+  -- n=3, route 1: limit 1 gives 14 (at n - 1), limit 2 goes on (`entry-overflows`).
+  pub over-limit : placement (submission triple 1 1 80 9 6) ≡ failingAt 14 2

@@ -1,5 +1,6 @@
 // Runs the rows of document 01's 'Values at the edges' through the public functions and prints what they answer.
 // What it must print is the file `stdout`; the rows that are proved of the definitions stand in specs/Edges.antt.
+// The most rounds stand only there: no public function answers them.
 use io::print_hex;
 use io::write_all;
 
@@ -88,6 +89,128 @@ fn scales() {
     scale(b"2^-19", 0.0000019073486328125);
 }
 
+fn answer(name: &[u8], given: placement::Answer) {
+    write_all(1, name);
+    match given {
+        placement::Answer::Refused(r) => {
+            write_all(1, b": refused");
+            number(r.number);
+            write_all(1, b" place");
+            number(r.place);
+        }
+        placement::Answer::Accepted(p) => {
+            write_all(1, b": anchor");
+            number(p.anchor);
+            write_all(1, b" route");
+            number(p.route);
+            write_all(1, b" rounds");
+            number(p.rounds);
+        }
+    }
+    write_all(1, b"\n");
+}
+
+fn position(name: &[u8], x: f64, y: f64, z: f64) {
+    write_all(1, name);
+    write_all(1, b" ");
+    print_hex(1, double::to_bits(x), 16);
+    write_all(1, b" ");
+    print_hex(1, double::to_bits(y), 16);
+    write_all(1, b" ");
+    print_hex(1, double::to_bits(z), 16);
+    write_all(1, b"\n");
+}
+
+// n=1, m=1, B=1, E=0: camera 0 sees point 0 along (0,0,1), old point (5,5,5). Route 3 with limit 48.
+fn one_camera(name: &[u8], weight: f64, scale: f64) {
+    let mut work = [7.0; 28];
+    let mut cameras = [7.0; 3];
+    let mut placed = [7.0; 3];
+    let given = placement::solve(
+        1,
+        1,
+        1,
+        0,
+        &[0usize, 0],
+        &[0.0, 0.0, 1.0],
+        &[weight],
+        &[scale],
+        &[5.0, 5.0, 5.0],
+        &[0usize, 1],
+        &[0usize],
+        3,
+        48,
+        &mut work,
+        &mut cameras,
+        &mut placed,
+    );
+    answer(name, given);
+    position(b"c 0", cameras[0], cameras[1], cameras[2]);
+    position(b"p 0", placed[0], placed[1], placed[2]);
+}
+
+// n=2, one direction, weight 1e300, scale 1e10. Limit 1.
+fn two_cameras(name: &[u8], route: usize) {
+    let mut work = [7.0; 51];
+    let mut cameras = [7.0; 6];
+    let mut placed = [7.0; 0];
+    let given = placement::solve(
+        2,
+        0,
+        0,
+        1,
+        &[0usize, 1],
+        &[1.0, 0.0, 0.0],
+        &[1e300],
+        &[1e10],
+        &[0.0f64; 0],
+        &[0usize],
+        &[0usize; 0],
+        route,
+        1,
+        &mut work,
+        &mut cameras,
+        &mut placed,
+    );
+    answer(name, given);
+}
+
+// n=3, cameras 1 and 2 see point 0 with weight 1e200, camera 0 sees point 1 with 1e201, scales 1. Route 1.
+fn three_cameras(name: &[u8], limit: usize) {
+    let mut work = [7.0; 90];
+    let mut cameras = [7.0; 9];
+    let mut placed = [7.0; 6];
+    let given = placement::solve(
+        3,
+        2,
+        3,
+        0,
+        &[1usize, 0, 2, 0, 0, 1],
+        &[0.0, 0.0, 1.0, 0.0, 0.0, 1.0, 0.0, 0.0, 1.0],
+        &[1e200, 1e200, 1e201],
+        &[1.0, 1.0, 1.0],
+        &[0.0f64; 6],
+        &[0usize, 2, 3],
+        &[0usize, 1, 2],
+        1,
+        limit,
+        &mut work,
+        &mut cameras,
+        &mut placed,
+    );
+    answer(name, given);
+}
+
+fn solves() {
+    one_camera(b"weight 1, scale 0.5", 1.0, 0.5);
+    one_camera(b"weight 0, scale 0.5", 0.0, 0.5);
+    one_camera(b"weight 1e-12, scale 1", 1e-12, 1.0);
+    two_cameras(b"weight 1e300, scale 1e10, route 2", 2);
+    two_cameras(b"weight 1e300, scale 1e10, route 1, limit 1", 1);
+    three_cameras(b"weights 1e200 and 1e201, route 1, limit 1", 1);
+    three_cameras(b"weights 1e200 and 1e201, route 1, limit 2", 2);
+}
+
 fn main() {
     root(b"2^-1074", 1);
     root(b"2", 0x4000_0000_0000_0000);
@@ -98,4 +221,5 @@ fn main() {
     root(b"a signalling NaN", 0xfff0_0000_0000_0001);
     two_parts();
     scales();
+    solves();
 }
