@@ -94,35 +94,40 @@ ready-went k e = let r = checked-ready k in record { sound = r .sound; room = rw
 pub cameras-filled : (l out out' : List Float) (p n : ℕ) → length out ≡ 3 * n → out' ≡ store vector out 0 (load vector l p n) → out' ≡ flat vector (load vector l p n)
 cameras-filled l out out' p n h e = e ∙ store-whole vector vector-lawful out (load vector l p n) (rw (length-load vector l p n) h)
 
--- the numbers after those that the system stands in are as they were
-surplus-formed : (route limit : ℕ) {net : Network} {a : ℕ} {l k l' : List Float} {x : Placement} {r : Answer} → let t = workLength (net .graph .shape) route limit in
-    Formed net l k a → Went net t x k l' r → drop t l' ≡ drop t l
-surplus-formed route limit {net} {a} {l} {k} f w = w .surplus ∙ surplus-more _ _ l k (f .surplus) (work-room (net .graph .shape) route limit)
+-- the route over the system, once it is formed
+pub went-formed : (route limit : ℕ) {net : Network} {a : ℕ} {l k l' : List Float} {x : Placement} {r : Answer} → let t = workLength (net .graph .shape) route limit in
+    Formed net l k a → Went net t x k l' r → Went net t x l l' r
+went-formed route limit {net} {a} {l} {k} f w =
+    record {
+      answer = w .answer;
+      segments = w .segments;
+      surplus = w .surplus ∙ surplus-more _ _ l k (f .surplus) (work-room (net .graph .shape) route limit);
+      size = w .size ∙ f .size;
+    }
 
-pub place-accepted : {net : Network} {a route limit : ℕ} {l k l' cameras cameras' points points' : List Float} {r : Answer} {p : Report} →
-    Formed net l k a → Went net (workLength (net .graph .shape) route limit) (routed net route limit) k l' r → r ≡ Accepted p → cameras' ≡ flat vector (camerasIn net l') → points' ≡ flat vector (pointsOf net (camerasIn net l')) →
+pub place-accepted : {net : Network} {route limit : ℕ} {l l' cameras cameras' points points' : List Float} {r : Answer} {p : Report} →
+    Went net (workLength (net .graph .shape) route limit) (routed net route limit) l l' r → r ≡ Accepted p → cameras' ≡ flat vector (camerasIn net l') → points' ≡ flat vector (pointsOf net (camerasIn net l')) →
     Placed net route limit (Accepted p) l l' cameras cameras' points points'
-place-accepted {net} {a} {route} {limit} {l} {k} {l'} {cameras} {cameras'} {points} {points'} {r} {p} f w e c q =
+place-accepted {net} {route} {limit} {l} {l'} {cameras} {cameras'} {points} {points'} {r} {p} w e c q =
     let x : placed p (camerasIn net l') ≡ routed net route limit = ap (λ (y : Answer). outcome y (camerasIn net l')) (sym e) ∙ w .answer in
     record {
       answer = ap answerOf x;
       camerasOut = c ∙ ap (λ (y : Placement). camerasAfter y cameras) x;
       pointsOut = q ∙ ap (λ (y : Placement). pointsAfter net y points) x;
-      surplus = surplus-formed route limit f w;
-      size = w .size ∙ f .size;
+      surplus = w .surplus;
+      size = w .size;
     }
 
-pub place-refused : {net : Network} {a route limit : ℕ} {l k l' cameras points : List Float} {r : Answer} {q : Refusal} →
-    Formed net l k a → Went net (workLength (net .graph .shape) route limit) (routed net route limit) k l' r → r ≡ Refused q →
-    Placed net route limit r l l' cameras cameras points points
-place-refused {net} {a} {route} {limit} {l} {k} {l'} {cameras} {points} {r} {q} f w e =
+pub place-refused : {net : Network} {route limit : ℕ} {l l' cameras points : List Float} {r : Answer} {q : Refusal} →
+    Went net (workLength (net .graph .shape) route limit) (routed net route limit) l l' r → r ≡ Refused q → Placed net route limit r l l' cameras cameras points points
+place-refused {net} {route} {limit} {l} {l'} {cameras} {points} {r} {q} w e =
     let x : failing q ≡ routed net route limit = ap (λ (y : Answer). outcome y (camerasIn net l')) (sym e) ∙ w .answer in
     record {
       answer = e ∙ ap answerOf x;
       camerasOut = ap (λ (y : Placement). camerasAfter y cameras) x;
       pointsOut = ap (λ (y : Placement). pointsAfter net y points) x;
-      surplus = surplus-formed route limit f w;
-      size = w .size ∙ f .size;
+      surplus = w .surplus;
+      size = w .size;
     }
 
 -- ---- a route that was gone leaves a work buffer of zeros

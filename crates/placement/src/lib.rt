@@ -24,7 +24,7 @@ ghost use Rattle.placement.specs.Routes.{buffersFit, routed, submission,
 ghost use Rattle.field.specs.Buffer.{flat, vector};
 ghost use Rattle.system.specs.Formed.{Ready, Segments};
 ghost use Rattle.recover.specs.Recover.{pointsOf};
-ghost use Rattle.placement.specs.Going.{Checked, Placed, camerasIn, lengthOr0};
+ghost use Rattle.placement.specs.Going.{Checked, Placed, Went, camerasIn, lengthOr0};
 ghost use Rattle.placement.specs.Solved.{Solved};
 
 // An accepted solve: the anchor, the answering route (1, 2, or 3 for dense after iterative), and the rounds (0 when dense answered).
@@ -154,7 +154,60 @@ fn fill(
     );
 }
 
-// Forms the system, goes the route and fills the outputs where it is accepted.
+// Forms the system and goes the route.
+fn run(
+    n: usize,
+    m: usize,
+    b: usize,
+    e: usize,
+    ends: &[usize],
+    rays: &[f64],
+    weights: &[f64],
+    scales: &[f64],
+    points: &[f64],
+    offsets: &[usize],
+    rows: &[usize],
+    route: usize,
+    limit: usize,
+    work: &mut [f64],
+) -> Answer
+    requires { ⌜ Checked (lent n m b e (now ends) (now rays) (now weights) (now scales) (now points) (now offsets) (now rows)) route limit (now work) ⌝ }
+    ensures { λ r. ⌜ Went (lent n m b e (now (ends .entry)) (now (rays .entry)) (now (weights .entry)) (now (scales .entry)) (now (points .entry)) (now (offsets .entry)) (now (rows .entry))) (workLength (shape n m b e) route limit) (routed (lent n m b e (now (ends .entry)) (now (rays .entry)) (now (weights .entry)) (now (scales .entry)) (now (points .entry)) (now (offsets .entry)) (now (rows .entry))) route limit) (now (work .entry)) (now (work .exit)) r ⌝ }
+{
+    let anchor = form(
+        n,
+        m,
+        b,
+        e,
+        ends,
+        rays,
+        weights,
+        scales,
+        points,
+        offsets,
+        rows,
+        work,
+    );
+    go(
+        n,
+        m,
+        b,
+        e,
+        ends,
+        rays,
+        weights,
+        scales,
+        points,
+        offsets,
+        rows,
+        route,
+        limit,
+        anchor,
+        work,
+    )
+}
+
+// The same, and the outputs filled where it is accepted.
 fn place(
     n: usize,
     m: usize,
@@ -177,21 +230,7 @@ fn place(
     requires { ⌜ (length (now cameras) ≡ 3 * n) × (length (now placed) ≡ 3 * m) ⌝ }
     ensures { λ r. ⌜ Placed (lent n m b e (now (ends .entry)) (now (rays .entry)) (now (weights .entry)) (now (scales .entry)) (now (points .entry)) (now (offsets .entry)) (now (rows .entry))) route limit r (now (work .entry)) (now (work .exit)) (now (cameras .entry)) (now (cameras .exit)) (now (placed .entry)) (now (placed .exit)) ⌝ }
 {
-    let anchor = form(
-        n,
-        m,
-        b,
-        e,
-        ends,
-        rays,
-        weights,
-        scales,
-        points,
-        offsets,
-        rows,
-        work,
-    );
-    let answer = go(
+    let answer = run(
         n,
         m,
         b,
@@ -205,7 +244,6 @@ fn place(
         rows,
         route,
         limit,
-        anchor,
         work,
     );
     if let Answer::Accepted(report) = answer {
