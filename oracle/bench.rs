@@ -217,6 +217,27 @@ fn small(runs: usize) {
     line("1000 small networks", "solve, route 3, limit 48", time, lent, "blocks and strips, 1 to 64 cameras");
 }
 
+/// How fast numbers come in, in GB/s: a sum over `count` doubles, again and again, by eight chains.
+fn bandwidth(count: usize, runs: usize) -> f64 {
+    let numbers = vec![1.0f64; count];
+    let sum = || {
+        let mut chains = [0.0f64; 8];
+        for part in numbers.chunks_exact(8) {
+            chains.iter_mut().zip(part).for_each(|(chain, x)| *chain += x);
+        }
+        chains.iter().sum::<f64>()
+    };
+    let (time, total) = best(runs, sum);
+    assert_eq!(total, count as f64);
+    8.0 * count as f64 / time.as_secs_f64() / 1e9
+}
+
+/// What one application of the system reads that does not stay in the nearer caches: row numbers, ends and effective weights of each
+/// row, offset and weight of each point.
+fn bytes_a_round(net: &Network) -> f64 {
+    (8 * net.b + 24 * (net.b + net.e) + 16 * net.m) as f64
+}
+
 fn main() {
     let quick = std::env::args().any(|a| a == "--quick");
     let runs = if quick { 1 } else { 3 };
@@ -229,4 +250,11 @@ fn main() {
     let dense = block_of(1, 257, 4096, 1024);
     table("dense, n=257", &dense, 1, 256, runs);
     small(runs.max(3));
+    let (near, far) = (bandwidth(1 << 20, 20), bandwidth(1 << 25, 5));
+    println!("\nnumbers come in at {near:.1} GB/s from 8 MB and at {far:.1} GB/s from 256 MB");
+    for kind in 0..5 {
+        let case = full(1, kind);
+        let bytes = bytes_a_round(&case.net);
+        println!("{}: {:.2} MB a round, {:.3} ms at the former", case.kind, bytes / 1e6, bytes / near / 1e6);
+    }
 }

@@ -1,0 +1,165 @@
+//! The solve.
+
+use crate::ffi::{self, Solved};
+use crate::{Counts, Error, Network};
+
+/// How to solve, and, of an answer, what solved it.
+#[derive(Clone, Copy, Debug, PartialEq, Eq, Hash)]
+pub enum Route {
+    /// Dense Cholesky.
+    Dense = 1,
+    /// Preconditioned conjugate gradients, matrix-free.
+    Iterative = 2,
+    /// Iterative, then dense if that refused and n-1 is within the dense limit. Of an answer: dense, after iterative refused.
+    IterativeThenDense = 3,
+}
+
+impl Route {
+    /// 1, 2 or 3.
+    pub fn number(self) -> usize {
+        self as usize
+    }
+}
+
+/// What an accepted solve reports.
+#[derive(Clone, Copy, Debug, PartialEq, Eq, Hash)]
+pub struct Report {
+    /// The camera that is held still, at three zeros.
+    pub anchor: usize,
+    /// The route that answered.
+    pub route: Route,
+    /// The rounds of the iterative route; 0 where dense answered.
+    pub rounds: usize,
+}
+
+/// An accepted placement.
+#[derive(Clone, Debug, PartialEq)]
+pub struct Placement {
+    /// The position of each camera.
+    pub cameras: Vec<[f64; 3]>,
+    /// The position of each point. Not tested for finiteness.
+    pub points: Vec<[f64; 3]>,
+    /// The camera that is held still, at three zeros.
+    pub anchor: usize,
+    /// The route that answered.
+    pub route: Route,
+    /// The rounds of the iterative route; 0 where dense answered.
+    pub rounds: usize,
+}
+
+/// Buffers that solves and graph calls work in. They grow as needed and are kept, so that calls after the first on networks of one size
+/// allocate nothing. What they hold makes no difference to a call.
+#[derive(Clone, Debug, Default)]
+pub struct Workspace {
+    work: Vec<f64>,
+    nodes: Vec<usize>,
+    labels: Vec<usize>,
+}
+
+fn grown<T: Copy>(buffer: &mut Vec<T>, length: usize, with: T) -> &mut [T] {
+    if buffer.len() < length {
+        buffer.resize(length, with);
+    }
+    buffer
+}
+
+impl Workspace {
+    /// An empty workspace.
+    pub fn new() -> Self {
+        Self::default()
+    }
+
+    /// A workspace that has room for this network's solves by this route and for its graph calls.
+    pub fn for_network(
+        network: &Network<'_>,
+        route: Route,
+        dense_limit: usize,
+    ) -> Result<Self, Error> {
+        let mut workspace = Self::new();
+        let counts = network.counts();
+        let length = work_length(counts, route, dense_limit)?;
+        workspace.work(length);
+        workspace.graph(counts);
+        Ok(workspace)
+    }
+
+    fn work(&mut self, length: usize) -> &mut [f64] {
+        grown(&mut self.work, length, 0.0)
+    }
+
+    /// Node numbers, and labels of just n cameras.
+    pub(crate) fn graph(&mut self, counts: Counts) -> (&mut [usize], &mut [usize]) {
+        let nodes = grown(&mut self.nodes, counts.cameras + counts.points, 0);
+        let labels = grown(&mut self.labels, counts.cameras, 0);
+        (nodes, &mut labels[..counts.cameras])
+    }
+}
+
+/// The doubles that the work buffer of a solve needs.
+pub fn work_length(counts: Counts, route: Route, dense_limit: usize) -> Result<usize, Error> {
+    let mut report = [0];
+    let code = ffi::work_length(counts, route.number(), dense_limit, &mut report);
+    Error::check(code, report[0], counts)?;
+    Ok(report[0])
+}
+
+/// Places every camera and point.
+pub fn solve(
+    network: &Network<'_>,
+    workspace: &mut Workspace,
+    route: Route,
+    dense_limit: usize,
+) -> Result<Placement, Error> {
+    let counts = network.counts();
+    let mut cameras = vec![[0.0; 3]; counts.cameras];
+    let mut points = vec![[0.0; 3]; counts.points];
+    let report = solve_into(
+        network,
+        workspace,
+        route,
+        dense_limit,
+        &mut cameras,
+        &mut points,
+    )?;
+    Ok(Placement {
+        cameras,
+        points,
+        anchor: report.anchor,
+        route: report.route,
+        rounds: report.rounds,
+    })
+}
+
+/// Places every camera and point in the caller's buffers, of n and m positions, which a refusal leaves as they were. Nothing is allocated
+/// where the workspace has room.
+pub fn solve_into(
+    network: &Network<'_>,
+    workspace: &mut Workspace,
+    route: Route,
+    dense_limit: usize,
+    cameras: &mut [[f64; 3]],
+    points: &mut [[f64; 3]],
+) -> Result<Report, Error> {
+    let counts = network.counts();
+    let length = work_length(counts, route, dense_limit)?;
+    let mut report = [0; 3];
+    let solved = Solved {
+        work: workspace.work(length),
+        cameras: cameras.as_flattened_mut(),
+        placed: points.as_flattened_mut(),
+        report: &mut report,
+    };
+    let code = ffi::solve(&network.lent(), route.number(), dense_limit, solved);
+    Error::check(code, report[0], counts)?;
+    let [anchor, answered, rounds] = report;
+    let route = match answered {
+        1 => Route::Dense,
+        2 => Route::Iterative,
+        _ => Route::IterativeThenDense,
+    };
+    Ok(Report {
+        anchor,
+        route,
+        rounds,
+    })
+}
