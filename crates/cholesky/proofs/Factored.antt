@@ -2,7 +2,7 @@
 use mathlib.Core.Path.{_≡_, sym}
 use mathlib.Core.Bool.{Bool, true, false}
 use mathlib.Core.List.{List}
-use Prim.Native.Nat.{ℕ, _+_, _*_, _<_}
+use Prim.Native.Nat.{ℕ, _+_, _*_, _≤_, _<_}
 use lib.ListN.{set}
 use lib.Ieee.{Float, binary64, div, lt}
 use lib.Ieee.Scale.{finite}
@@ -11,16 +11,16 @@ use Rattle.sqrt.specs.Root.{root}
 use Rattle.cholesky.specs.declared.Solve.{Solve}
 use Rattle.cholesky.specs.declared.Solve.the-variants.{Done, Stopped}
 use Rattle.cholesky.specs.Cholesky.{Result, done, stopped, then, run, ended, entry, remainder, factorEntry, pivot, factorRow, factor}
-use Rattle.cholesky.proofs.Runs.{run-stops}
+use Rattle.cholesky.proofs.Runs.{run-stays, run-stops}
 
 module _ (d : ℕ) where
-  pub entry-done : (i j : ℕ) (A : List Float) (v : Float) (b : Bool) → v ≡ remainder d A i j → b ≡ finite (div binary64 v (entry d A j j)) → b ≡ true → done (set A (i * d + j) (div binary64 v (entry d A j j))) ≡ factorEntry d i j A
+  pub entry-done : (i j : ℕ) (A : List Float) (v w : Float) (b : Bool) → v ≡ remainder d A i j → w ≡ entry d A j j → b ≡ finite (div binary64 v w) → b ≡ true → done (set A (i * d + j) (div binary64 v w)) ≡ factorEntry d i j A
   unfolding factorEntry
-  entry-done i j A v b e f t = rw (← e, ← f, t)
+  entry-done i j A v w b e g f t = rw (← e, ← g, ← f, t)
 
-  pub entry-stops : (i j : ℕ) (A : List Float) (v : Float) (b : Bool) → v ≡ remainder d A i j → b ≡ finite (div binary64 v (entry d A j j)) → b ≡ false → stopped 16 i ≡ factorEntry d i j A
+  pub entry-stops : (i j : ℕ) (A : List Float) (v w : Float) (b : Bool) → v ≡ remainder d A i j → w ≡ entry d A j j → b ≡ finite (div binary64 v w) → b ≡ false → stopped 16 i ≡ factorEntry d i j A
   unfolding factorEntry
-  entry-stops i j A v b e f t = rw (← e, ← f, t)
+  entry-stops i j A v w b e g f t = rw (← e, ← g, ← f, t)
 
   pub pivot-done : (i : ℕ) (A : List Float) (v x : Float) (b : Bool) → v ≡ remainder d A i i → b ≡ finite v → b ≡ true → lt null v ≡ true → x ≡ root binary64 v → done (set A (i * d + i) x) ≡ pivot d i A
   unfolding pivot
@@ -35,6 +35,10 @@ module _ (d : ℕ) where
   pivot-low i A v b e f t u = rw (← e, ← f, t, u)
 
   -- a row: its entries in order, then its pivot
+  pub row-stays : (i n : ℕ) (A : List Float) (k r : ℕ) → run (factorEntry d i) n A ≡ stopped k r → n ≤ i → stopped k r ≡ factorRow d i A
+  unfolding factorRow
+  row-stays i n A k r e h = rw (run-stays (factorEntry d i) n i A k r e h)
+
   pub row-stops : (i j : ℕ) (A B : List Float) (k r : ℕ) → run (factorEntry d i) j A ≡ done B → factorEntry d i j B ≡ stopped k r → j < i → stopped k r ≡ factorRow d i A
   unfolding factorRow
   row-stops i j A B k r e f h = rw (run-stops (factorEntry d i) j i A B k r e f h)

@@ -1,4 +1,5 @@
 pub mod Places
 pub mod Runs
+pub mod Columns
 pub mod Factored
 pub mod Substitution

@@ -10,3 +10,10 @@ place-below d i j h k =
     let e : suc i * d ≤ d * d = mul-le-mul-right d h in
     let f : suc i * d ≡ i * d + d = suc-mul i d in
     omega arith
+
+-- an entry of a row stands before each of a later row
+pub row-below : (d i j k : ℕ) → j < i → k < d → j * d + k < i * d
+row-below d i j k h l =
+    let e : suc j * d ≤ i * d = mul-le-mul-right d h in
+    let f : suc j * d ≡ j * d + d = suc-mul j d in
+    omega arith

@@ -1,0 +1,97 @@
+-- What the solve program answers and prints (document 01, 'Network image (added) and the solve program').
+use Prim.Native.Nat.{ℕ, _+_}
+use mathlib.Core.Path.{_≡_}
+use mathlib.Core.Bool.{Bool, true}
+use mathlib.Core.List.{List, [], _∷_, _++_}
+use lib.ListN.{length}
+use lib.Dec.{ltb}
+use Rattle.network.specs.declared.Refusal.{Refusal}
+use Rattle.network.specs.declared.Verdict.{Verdict}
+use Rattle.network.specs.declared.Verdict.the-variants as tested
+use Rattle.network.specs.Network.{Shape, Graph, graph, Network, network}
+use Rattle.network.specs.Lists.{listsHold}
+use Rattle.network.specs.Refusals.{test, verdict}
+use Rattle.graph.specs.Outcome.{Labelled}
+use Rattle.graph.specs.Distinct.{distinct}
+use Rattle.recover.specs.Recover.{pointsOf}
+use Rattle.placement.specs.declared.Answer.{Answer}
+use Rattle.placement.specs.declared.Answer.the-variants.{Refused}
+use Rattle.placement.specs.Routes.{Placement, rejected, failing, placed, routed}
+use Rattle.placement.specs.Solved.{answerOf}
+use Rattle.layout.specs.Image.{Content}
+use Rattle.image.specs.Reading.{shapeAt, contentOf}
+use Rattle.image.specs.Tests.{countsTests, rowTests}
+use Rattle.text.specs.Text.{placedText, refusedText}
+use Rattle.text.specs.Lent.{Put}
+use Rattle.command.specs.declared.Printed.{Printed}
+
+-- ---- what is refused
+
+-- 'an image of at most 16,384 bytes (longer: refused first, as 2, place 0)'
+unfoldable pub tooLong : List ℕ → Bool
+tooLong bytes = ltb 16384 (length bytes)
+
+-- 'at most 64 cameras (more: 1, place 0)'
+unfoldable pub tooMany : Shape → Bool
+tooMany s = ltb 64 (s .cameras)
+
+-- The tests in order: the length; 20 to 22, then 1 and 2 of the counts; the 64 cameras; 4, 5 and 7 of the rows and points.
+-- 3, 6 and 8 refuse nothing: the program's own buffers have the lengths that the counts say, and the lists and the route are its own.
+-- Nor does 2 of the counts, after 22: what is over those limits does not fit into 16,384 bytes.
+unfoldable pub programTests : List ℕ → List Verdict
+programTests bytes =
+    (test 2 (tooLong bytes) ∷ []) ++ (countsTests bytes ++ ((test 1 (tooMany (shapeAt 36 bytes)) ∷ []) ++ rowTests (contentOf bytes)))
+
+-- the line of a refusal
+abbrev pub refusedLine : Refusal → List ℕ
+refusedLine r = refusedText (r .number) (r .place)
+
+-- ---- what is solved
+
+abbrev pub graphOf : Content → Graph
+graphOf c = graph (c .shape) (c .ends) (c .weights)
+
+-- a content with its point lists
+abbrev pub networkOf : Content → List ℕ → List ℕ → Network
+networkOf c offsets listed = network (graphOf c) (c .rays) (c .scales) (c .positions) offsets listed
+
+-- 'uses route 3 with dense limit 48'
+abbrev pub ending : Network → Placement
+ending net = routed net 3 48
+
+-- 'Lines: counts; number of parts; the report; each camera, then each point'. 'A refusal prints only' its line.
+abbrev pub lines : Network → (parts : ℕ) → Placement → List ℕ
+lines net parts (rejected r) = refusedLine r
+lines net parts (failing r) = refusedLine r
+lines net parts (placed p cameras) =
+    let s = net .graph .shape in
+    placedText (s .cameras) (s .points) (s .bearings) (s .directions) parts (p .anchor) (p .route) (p .rounds) cameras (pointsOf net cameras)
+
+-- 'builds the point lists': those that keep the rule, m + 1 offsets and B row numbers. No others do.
+pub record PointLists (c : Content) (offsets listed : List ℕ) : Type 0 where
+  pub rule : listsHold (c .shape .points) (c .shape .bearings) (c .ends) offsets listed ≡ true
+  pub offsetCount : length offsets ≡ c .shape .points + 1
+  pub listedCount : length listed ≡ c .shape .bearings
+
+-- An image that no test refuses, with the content c: the answer and the text. The point lists and the labels are fixed by c.
+pub record Solved (c : Content) (answer : Answer) (text : List ℕ) : Type 0 where
+  pub offsets : List ℕ
+  pub listed : List ℕ
+  pub lists : PointLists c offsets listed
+  pub labels : List ℕ
+  pub labelled : Labelled (graphOf c) labels
+  pub answered : answer ≡ answerOf (ending (networkOf c offsets listed))
+  pub printed : text ≡ lines (networkOf c offsets listed) (distinct labels) (ending (networkOf c offsets listed))
+
+-- ---- the whole program
+
+-- of the bytes of its input: the answer and the text that it prints
+pub record Outcome (bytes : List ℕ) (answer : Answer) (text : List ℕ) : Type 0 where
+  pub refused : (r : Refusal) → verdict (programTests bytes) ≡ tested.Refused r → (answer ≡ Refused r) × (text ≡ refusedLine r)
+  pub passed : verdict (programTests bytes) ≡ tested.Passed → Solved (contentOf bytes) answer text
+
+-- The answer and some text are such that P holds of them. The text stands at the front of the buffer, all of it, and every byte after it is as it was.
+pub record Prints (P : Answer → List ℕ → Type 0) (r : Printed) (buffer buffer′ : List ℕ) : Type 0 where
+  pub text : List ℕ
+  pub put : Put buffer buffer′ 0 text 65536 (r .length)
+  pub holds : P (r .answer) text
