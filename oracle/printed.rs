@@ -163,8 +163,10 @@ fn damage(random: &mut Random, image: &mut Vec<u8>) {
         0 => image.truncate(random.below(size)),
         1 => {
             for _ in 0..random.among(1, 4) {
-                let p = random.below(size);
-                image[p % size] ^= 1 << random.below(8);
+                let bit = 1 << random.below(8);
+                if let Some(byte) = image.get_mut(random.below(size)) {
+                    *byte ^= bit;
+                }
             }
         }
         // an offset, a length or a count off by one, or a large one
