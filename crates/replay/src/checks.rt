@@ -56,9 +56,9 @@ pub(crate) fn joined(earlier: Found, later: Found) -> Found {
 }
 
 // What a comparison finds where there is nothing to compare: a call is refused, or a buffer is too short.
-fn lacking(number: usize, what: &[u8], at: usize) -> Found {
+fn lacking(number: usize, what: &[u8]) -> Found {
     Found {
-        next: at,
+        next: LOST,
         same: judge(number, what, false),
     }
 }
@@ -133,7 +133,7 @@ fn list_parts(
 ) -> Found {
     let n = case.n;
     if labels.len() < n {
-        return lacking(case.number, b"parts", at);
+        return lacking(case.number, b"parts");
     }
     let part = &mut labels[0..n];
     let listing = graph::parts(
@@ -297,7 +297,7 @@ fn compare_output(
     at: usize,
 ) -> Found {
     if out.len() < count {
-        return lacking(number, word, at);
+        return lacking(number, word);
     }
     let found = same_reals(input, at, word, &out[0..count]);
     let kept = all_are(&out[count..], double::to_bits(CANARY));
