@@ -14,7 +14,8 @@ use Rattle.network.specs.declared.Length.{Length}
 use Rattle.network.specs.declared.Length.the-variants as needed
 use Rattle.network.specs.declared.Verdict.{Verdict}
 use Rattle.network.specs.declared.Verdict.the-variants as verdict
-use Rattle.recover.specs.Contracts.{Placed, DotsFilled, ScalesFilled}
+use Rattle.recover.specs.Recover.{dotsOf, scalesOf}
+use Rattle.recover.specs.Contracts.{Placed, camerasOf, Filled}
 use Rattle.placement.specs.declared.Answer.{Answer}
 use Rattle.placement.specs.declared.Answer.the-variants as solving
 use Rattle.placement.specs.Routes.{Submission}
@@ -114,17 +115,18 @@ pub record LengthCall (answer : Length) (code : ℕ) (report report' : List ℕ)
   pub coded : code ≡ lengthCode answer
   pub reported : report' ≡ set report 0 (lengthReport answer)
 
-pub record DotsCall (i : Placed) (code : ℕ) (out out' : List Float) (report report' : List ℕ) : Type 0 where
+-- dots or scales: xs is what a call that refuses nothing fills its output with
+pub record FilledCall (i : Placed) (xs : List Float) (code : ℕ) (out out' : List Float) (report report' : List ℕ) : Type 0 where
   pub answer : Verdict
-  pub call : DotsFilled i answer out out'
+  pub call : Filled i xs answer out out'
   pub coded : code ≡ verdictCode answer
   pub reported : report' ≡ set report 0 (verdictReport answer)
 
-pub record ScalesCall (i : Placed) (code : ℕ) (out out' : List Float) (report report' : List ℕ) : Type 0 where
-  pub answer : Verdict
-  pub call : ScalesFilled i answer out out'
-  pub coded : code ≡ verdictCode answer
-  pub reported : report' ≡ set report 0 (verdictReport answer)
+abbrev pub DotsCall : Placed → ℕ → List Float → List Float → List ℕ → List ℕ → Type 0
+DotsCall i = FilledCall i (dotsOf (i .net) (camerasOf i))
+
+abbrev pub ScalesCall : Placed → ℕ → List Float → List Float → List ℕ → List ℕ → Type 0
+ScalesCall i = FilledCall i (scalesOf (i .net) (camerasOf i))
 
 -- where the report has three numbers
 pub record Reported (i : Submission) (code : ℕ) (work work' cameras cameras' points points' : List Float) (report report' : List ℕ) : Type 0 where
