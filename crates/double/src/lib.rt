@@ -4,11 +4,11 @@ ghost use lib.Ieee.{binary64, toBits};
 ghost use lib.Ieee.Scale.{finite};
 ghost use Rattle.double.specs.Double.{greater, magnitude, decoded};
 
+// x - x is 0 where x is finite, and NaN elsewhere.
 pub fn is_finite(x: f64) -> bool
     ensures { λ r. ⌜ r ≡ finite x ⌝ }
 {
-    let top = 1.0 / 0.0;
-    -top < x && x < top
+    x - x == 0.0
 }
 
 pub fn is_nan(x: f64) -> bool

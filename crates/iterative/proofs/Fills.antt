@@ -1,7 +1,7 @@
 -- Loops over the cameras: the fields that are filled, the camera terms that are read, a sum. Assumes nothing.
 use mathlib.Core.Path.{ap, sym, _∙_, _≡_}
 use mathlib.Core.List.{List}
-use mathlib.Core.Bool.{Bool, cond, not, _&&_, _||_}
+use mathlib.Core.Bool.{Bool, cond, not, _&&_, _||_, true, false}
 use Prim.Native.Nat.{ℕ, _*_, _+_, _<_, _≤_}
 use native.Mathlib.Nat.{add-zero, zero-add}
 use native.Mathlib.Numerals.{add-one}
@@ -93,13 +93,20 @@ bad-here l n a i b h e = e ∙ rw (here-diagonal l n i h)
 
 -- ---- a sum over the cameras but the anchor
 
-pub dot-more : (l : List Float) (n a p q i : ℕ) (s v u t : Vec3) → let f = load vector l p n in let g = load vector l q n in
-    i < n → s ≡ upto (dotStep a f g) i origin → v ≡ times (get vector l (p + 3 * i)) (get vector l (q + 3 * i)) → u ≡ plus s v → t ≡ cond (eqb i a) s u → t ≡ upto (dotStep a f g) (i + 1) origin
+pub dot-same : (f g : List Vec3) (a i : ℕ) (s : Vec3) → eqb i a ≡ true → s ≡ dotStep a f g i s
 unfolding dotStep
-dot-more l n a p q i s v u t h e f g k =
+dot-same f g a i s e = rw e
+
+pub dot-added : (l : List Float) (n a p q i : ℕ) (s v t : Vec3) → eqb i a ≡ false → i < n →
+    v ≡ times (get vector l (p + 3 * i)) (get vector l (q + 3 * i)) → t ≡ plus s v → t ≡ dotStep a (load vector l p n) (load vector l q n) i s
+unfolding dotStep
+dot-added l n a p q i s v t e h f k =
     let x : at (load vector l p n) i ≡ get vector l (p + 3 * i) = at-load vector l p n i origin h in
     let y : at (load vector l q n) i ≡ get vector l (q + 3 * i) = at-load vector l q n i origin h in
-    rw (add-one, upto-suc, x, y, ← f, ← e, ← g) k
+    rw (e, x, y, ← f) k
+
+pub dot-more : (f g : List Vec3) (a i : ℕ) (s t : Vec3) → s ≡ upto (dotStep a f g) i origin → t ≡ dotStep a f g i s → t ≡ upto (dotStep a f g) (i + 1) origin
+dot-more f g a i s t e k = rw (add-one, upto-suc, ← e) k
 
 pub dot-done : (n a : ℕ) (f g : List Vec3) (s : Vec3) → s ≡ upto (dotStep a f g) n origin → s ≡ fieldDot n a f g
 unfolding fieldDot

@@ -11,7 +11,7 @@ use operator::anchored;
 use operator::zero;
 ghost use mathlib.Core.Path.{_≡_};
 ghost use mathlib.Core.Bool.{not, _&&_, _||_};
-ghost use Prim.Native.Nat.{_+_, _*_, _≤_};
+ghost use Prim.Native.Nat.{_+_, _*_, _<_, _≤_};
 ghost use lib.Dec.{eqb};
 ghost use lib.ListN.{length};
 ghost use lib.Ieee.{lt};
@@ -20,7 +20,7 @@ ghost use Rattle.field.specs.Vec.{null};
 ghost use Rattle.field.specs.Count.{lowest};
 ghost use Rattle.field.specs.Buffer.{load, store, vector};
 ghost use Rattle.system.specs.Work.{term};
-ghost use Rattle.iterative.specs.Problem.{times as products, fieldDot};
+ghost use Rattle.iterative.specs.Problem.{times as products, dotStep, fieldDot};
 ghost use Rattle.iterative.specs.Method.{zeros, preconditioned, advanced, searching, difference, badDiagonal};
 ghost use Rattle.operator.specs.Posed.{Ordered};
 ghost use Rattle.iterative.specs.Reduced.{diagonalOf, rightOf};
@@ -37,6 +37,18 @@ fn times(a: Vec3, b: Vec3) -> Vec3
     }
 }
 
+// The sum of a dot once camera i's products are added: as it was at the anchor. Nothing is read there, so that no choice stands between two sums.
+fn dot_step(work: &[f64], n: usize, anchor: usize, p: usize, q: usize, i: usize, sum: Vec3) -> Vec3
+    requires { ⌜ (p + 3 * n ≤ length (now work)) × (q + 3 * n ≤ length (now work)) × (i < n) ⌝ }
+    ensures { λ r. ⌜ r ≡ dotStep anchor (load vector (now (work .entry)) p n) (load vector (now (work .entry)) q n) i sum ⌝ }
+{
+    if i == anchor {
+        return sum;
+    }
+    let v = times(get3(work, p + 3 * i), get3(work, q + 3 * i));
+    sum.add(v)
+}
+
 // For each component the sum of the products of the fields at p and q, over all cameras but the anchor.
 pub(crate) fn field_dot(work: &[f64], n: usize, anchor: usize, p: usize, q: usize) -> Vec3
     requires { ⌜ (p + 3 * n ≤ length (now work)) × (q + 3 * n ≤ length (now work)) ⌝ }
@@ -45,8 +57,7 @@ pub(crate) fn field_dot(work: &[f64], n: usize, anchor: usize, p: usize, q: usiz
     let mut sum = zero();
     let mut i = 0usize;
     while i < n {
-        let v = times(get3(work, p + 3 * i), get3(work, q + 3 * i));
-        sum = anchored(i, anchor, sum, sum.add(v));
+        sum = dot_step(work, n, anchor, p, q, i, sum);
         i += 1;
     }
     sum

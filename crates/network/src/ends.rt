@@ -43,12 +43,12 @@ fn loops_at(b: usize, ends: &[usize], r: usize) -> bool
     both(b <= r, ends[2 * r] == ends[2 * r + 1])
 }
 
-// The lowest of `count` rows that is a direction with source = target.
+// The lowest of `count` rows that is a direction with source = target. The first b are bearings.
 fn find_loop(b: usize, count: usize, ends: &[usize]) -> Place
-    requires { ⌜ length (now ends) ≡ 2 * count ⌝ }
+    requires { ⌜ (length (now ends) ≡ 2 * count) × (b ≤ count) ⌝ }
     ensures { λ r. ⌜ r ≡ lowest (loops b (now (ends .entry))) count ⌝ }
 {
-    let mut r = 0usize;
+    let mut r = b;
     while r < count {
         if loops_at(b, ends, r) {
             return Place::At(r);

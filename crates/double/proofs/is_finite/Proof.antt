@@ -1,34 +1,37 @@
-use mathlib.Core.Path.{_≡_, refl}
-use mathlib.Core.Bool.{true, false, true≢false, false≢true}
-use lib.Ieee.{Float, nan, inf, fin, binary64, lt, neg, div, ofBits}
-use lib.Ieee.Scale.{finite}
+use mathlib.Core.Path.{_≡_, refl, _∙_}
+use mathlib.Core.Bool.{Bool, true, false, not}
+use Prim.Native.Nat.{ℕ, _+_, _*_, _-_, _<_}
+use native.Mathlib.Omega.{arith}
+use native.Mathlib.Nat.{le-refl, mul-pos, zero-mul, sub-self}
+use borrow.Author.Tests.{le-ltb}
+use lib.Ieee.{Float, nan, inf, fin, binary64, up, down, eq, neg, add, sub, sum, round, ofBits}
+use lib.Ieee.Fits.{down-pos}
+use lib.Ieee.Scale.{finite, round-same}
 use Rattle.double.proofs.is_finite.Statement.{statement}
 use Rattle.double.proofs.is_finite.Tie as tie
 
-top : Float
-top = div binary64 (ofBits binary64 0x3ff0000000000000) (ofBits binary64 0)
+zero : Float
+zero = ofBits binary64 0
 
-above : (x : Float) → lt (neg top) x ≡ true → lt x top ≡ finite x
-unfolding top lt neg div ofBits
-above nan e = refl
-above (inf true) e = absurd (false≢true e)
-above (inf false) e = refl
-above (fin s m k) e = refl
+nothing : (c : ℕ) → 0 < c → round binary64 false 0 c ≡ round binary64 false 0 1
+nothing c h = round-same binary64 false 0 c 0 1 h (omega arith) (omega (arith, zero-mul c))
 
-below : (x : Float) → lt (neg top) x ≡ false → lt (neg top) x ≡ finite x
-unfolding top lt neg div ofBits
-below nan e = refl
-below (inf true) e = refl
-below (inf false) e = absurd (true≢false e)
-below (fin s m k) e = absurd (true≢false e)
+-- ±a / c ∓ a / c
+none : (s : Bool) (a c : ℕ) → 0 < c → sum binary64 s a (not s) a c ≡ round binary64 false 0 1
+unfolding sum
+none true a c h = rw (le-ltb a a (le-refl a), sub-self a) (nothing c h)
+none false a c h = rw (le-ltb a a (le-refl a), sub-self a) (nothing c h)
+
+vanishes : (x : Float) → eq (sub binary64 x x) zero ≡ finite x
+unfolding zero sub neg add eq ofBits round
+vanishes nan = refl
+vanishes (inf true) = refl
+vanishes (inf false) = refl
+vanishes (fin s m e) = rw (none s (m * up e * down e) (down e * down e) (mul-pos (down-pos e) (down-pos e))) refl
 
 returns : tie.Need-returns
-unfolding top
-returns c = above _ (c .if1 .taken)
-
-returns-2 : tie.Need-returns-2
-unfolding top
-returns-2 c = below _ (c .if1 .left)
+unfolding zero
+returns c = vanishes (c .args .x)
 
 pub is-finite-spec : {M : Type 1} → statement M
-is-finite-spec = tie.close (tie.spec returns returns-2)
+is-finite-spec = tie.close (tie.spec returns)

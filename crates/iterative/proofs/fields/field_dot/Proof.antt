@@ -22,32 +22,8 @@ zero-requires c κs = tt
 loop-holds : tie.Need-loop-holds Inv-loop μ-loop
 loop-holds c = (omega arith, c .zero .ensures ∙ sym (upto-zero _ _))
 
-mul-get3 : tie.Need-mul-get3 Inv-loop μ-loop
-mul-get3 c = omega arith
-
-add-get3 : tie.Need-add-get3 Inv-loop μ-loop
-add-get3 c = omega arith
-
-get3-requires : tie.Need-get3-requires Inv-loop μ-loop
-get3-requires c κs = omega arith
-
-mul-get3-2 : tie.Need-mul-get3-2 Inv-loop μ-loop
-mul-get3-2 c = omega arith
-
-add-get3-2 : tie.Need-add-get3-2 Inv-loop μ-loop
-add-get3-2 c = omega arith
-
-get3-requires-2 : tie.Need-get3-requires-2 Inv-loop μ-loop
-get3-requires-2 c κs = omega arith
-
-times-requires : tie.Need-times-requires Inv-loop μ-loop
-times-requires c κs = tt
-
-add-requires : tie.Need-add-requires Inv-loop μ-loop
-add-requires c κs = tt
-
-anchored-requires : tie.Need-anchored-requires Inv-loop μ-loop
-anchored-requires c κs = tt
+dot-step-requires : tie.Need-dot-step-requires Inv-loop μ-loop
+dot-step-requires c κs = (omega arith, omega arith, omega arith)
 
 add-i : tie.Need-add-i Inv-loop μ-loop
 add-i c = omega arith
@@ -56,7 +32,7 @@ loop-less : tie.Need-loop-less Inv-loop μ-loop
 loop-less c = omega arith
 
 loop-again : tie.Need-loop-again Inv-loop μ-loop
-loop-again c = (omega arith, dot-more _ _ _ _ _ _ _ _ _ _ (omega arith) (c .before .before .before .before .before .before .loop .inv .1) (c .before .before .times .ensures ∙ rw (c .before .before .before .before .get3 .ensures, c .before .before .before .get32 .ensures)) (c .before .add .ensures) (c .anchored .ensures))
+loop-again c = (omega arith, dot-more _ _ _ _ _ _ (c .before .before .loop .inv .1) (c .dot-step .ensures))
 
 returns : tie.Need-returns Inv-loop μ-loop
 returns c = let e : c .before .loop .i ≡ c .before .before .before .before .args .n = omega arith in dot-done _ _ _ _ _ (rw e at (c .before .loop .inv .1))
@@ -69,15 +45,7 @@ field-dot-spec =
     μ-loop
     zero-requires
     loop-holds
-    mul-get3
-    add-get3
-    get3-requires
-    mul-get3-2
-    add-get3-2
-    get3-requires-2
-    times-requires
-    add-requires
-    anchored-requires
+    dot-step-requires
     add-i
     loop-less
     loop-again

@@ -1,13 +1,21 @@
 use mathlib.Core.Path.{_≡_, sym, _∙_}
-use Prim.Native.Nat.{_≤_, _-_}
+use mathlib.Core.Bool.{false}
+use mathlib.Core.List.{List}
+use Prim.Native.Nat.{ℕ, _<_, _≤_, _-_}
+use borrow.Author.Tests.{lt-leb}
 use native.Mathlib.Numerals.{add-one}
 use native.Mathlib.Omega.{arith}
 use Rattle.field.specs.Count.{lowest}
 use Rattle.field.specs.declared.Place.the-variants.{Nowhere}
-use Rattle.field.proofs.Counting.{lowest-zero, lowest-more, lowest-found}
+use Rattle.field.proofs.Counting.{lowest-none, lowest-more, lowest-found}
 use Rattle.network.specs.Refusals.{loops}
 use Rattle.network.proofs.ends.find_loop.Statement.{statement}
 use Rattle.network.proofs.ends.find_loop.Tie as tie
+
+-- a bearing is no direction
+no-loop : (b : ℕ) (ends : List ℕ) (r : ℕ) → r < b → loops b ends r ≡ false
+unfolding loops
+no-loop b ends r h = rw (lt-leb b r h)
 
 abbrev Inv-loop : tie.InvT-loop
 Inv-loop b count ends r₀ r = (r ≤ count) × (lowest (loops b ends) r ≡ Nowhere)
@@ -16,7 +24,7 @@ abbrev μ-loop : tie.MeasureT-loop
 μ-loop b count ends r₀ r = count - r
 
 loop-holds : tie.Need-loop-holds Inv-loop μ-loop
-loop-holds c = (omega arith, lowest-zero _)
+loop-holds c = (omega arith, lowest-none _ _ (no-loop _ _))
 
 loops-at-requires : tie.Need-loops-at-requires Inv-loop μ-loop
 loops-at-requires c κs = omega arith
