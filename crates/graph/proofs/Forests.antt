@@ -167,6 +167,15 @@ module _ (p : List ℕ) (f : Forest p) (a b : ℕ) where
       let lo : min (rootOf p a) (rootOf p b) ≡ rootOf p b = omega arith in
       record { forest = m .0; root = λ x. rw (hi, lo) (m .1 x) }
 
+  -- nodes with one parent are in one tree
+  pub merge-none : parent p a ≡ parent p b → Merged p p a b
+  unfolding merged under
+  merge-none e =
+      let same : rootOf p b ≡ rootOf p a = sym (root-up p f b) ∙ ap (rootOf p) (sym e) ∙ root-up p f a in
+      let hi : max (rootOf p a) (rootOf p a) ≡ rootOf p a = omega arith in
+      let lo : min (rootOf p a) (rootOf p a) ≡ rootOf p a = omega arith in
+      record { forest = f; root = λ x. rw (same, hi, lo) (sym (under-self (rootOf p a) (rootOf p x))) }
+
 -- ---- what the functions over a parent list leave
 
 -- a climb that ends at once, and one that goes on from the parent's parent

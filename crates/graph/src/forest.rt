@@ -22,12 +22,15 @@ pub(crate) fn root(parents: &mut [usize], node: usize) -> usize
     }
 }
 
-// Makes the trees of two nodes one, under the lower of the two roots.
+// Makes the trees of two nodes one, under the lower of the two roots. Two nodes with one parent are in one tree already.
 pub(crate) fn join(parents: &mut [usize], a: usize, b: usize)
     requires { ⌜ Forest (now parents) ⌝ }
     requires { ⌜ (a < length (now parents)) × (b < length (now parents)) ⌝ }
     ensures { λ r. ⌜ Merged (now (parents .entry)) (now (parents .exit)) a b ⌝ }
 {
+    if parents[a] == parents[b] {
+        return;
+    }
     let u = root(parents, a);
     let v = root(parents, b);
     if u < v {
