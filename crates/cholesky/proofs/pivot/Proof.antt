@@ -1,18 +1,13 @@
 use Rattle.cholesky.proofs.Factored.{pivot-done, pivot-wild, pivot-low}
-use Rattle.field.proofs.Counting.{upto-zero}
 use mathlib.Core.Logic.{⊎-elim}
-use mathlib.Core.Path.{sym, _∙_}
 use Rattle.cholesky.proofs.Places.{place-below}
 use native.Mathlib.Omega.{arith}
 use borrow.Author.Needs.{needs}
 use Rattle.cholesky.proofs.pivot.Statement.{statement}
 use Rattle.cholesky.proofs.pivot.Tie as tie
 
-entry-requires : tie.Need-entry-requires
-entry-requires c κs = search needs
-
 remainder-requires : tie.Need-remainder-requires
-remainder-requires c κs = (omega arith, omega arith, omega arith, omega arith, c .entry .ensures ∙ sym (upto-zero _ _))
+remainder-requires c κs = search needs
 
 is-finite-requires : tie.Need-is-finite-requires
 is-finite-requires c κs = search needs
@@ -21,16 +16,16 @@ sqrt-requires : tie.Need-sqrt-requires
 sqrt-requires c κs = search needs
 
 mul-a : tie.Need-mul-a
-mul-a c = let a = c .before .before .before .before .before .before .before .before .args in let h = place-below (a .d) (a .i) (a .i) (omega arith) (omega arith) in omega arith
+mul-a c = let a = c .before .before .before .before .before .before .before .args in let h = place-below (a .d) (a .i) (a .i) (omega arith) (omega arith) in omega arith
 
 add-a : tie.Need-add-a
-add-a c = let a = c .before .before .before .before .before .before .before .before .args in let h = place-below (a .d) (a .i) (a .i) (omega arith) (omega arith) in omega arith
+add-a c = let a = c .before .before .before .before .before .before .before .args in let h = place-below (a .d) (a .i) (a .i) (omega arith) (omega arith) in omega arith
 
 mul-a-2 : tie.Need-mul-a-2
-mul-a-2 c = let a = c .before .before .before .before .before .before .before .before .args in let h = place-below (a .d) (a .i) (a .i) (omega arith) (omega arith) in omega arith
+mul-a-2 c = let a = c .before .before .before .before .before .before .before .args in let h = place-below (a .d) (a .i) (a .i) (omega arith) (omega arith) in omega arith
 
 slice-write-a : tie.Need-slice-write-a
-slice-write-a c = let a = c .before .before .before .before .before .before .before .before .args in let h = place-below (a .d) (a .i) (a .i) (omega arith) (omega arith) in omega arith
+slice-write-a c = let a = c .before .before .before .before .before .before .before .args in let h = place-below (a .d) (a .i) (a .i) (omega arith) (omega arith) in omega arith
 
 same-length : tie.Need-same-length
 same-length c = search needs
@@ -51,7 +46,6 @@ pub pivot-spec : {M : Type 1} → statement M
 pivot-spec =
     tie.close
     (tie.spec
-    entry-requires
     remainder-requires
     is-finite-requires
     sqrt-requires

@@ -1,24 +1,28 @@
 use Rattle.cholesky.proofs.Columns.{partial, partial-more, partial-all, taken}
+use Rattle.field.proofs.Counting.{upto-zero}
 use Prim.Native.Nat.{_≤_, _-_}
-use mathlib.Core.Path.{_≡_, _∙_}
+use mathlib.Core.Path.{_≡_, sym, _∙_}
 use native.Mathlib.Omega.{arith}
 use Rattle.cholesky.proofs.remainder.Statement.{statement}
 use Rattle.cholesky.proofs.remainder.Tie as tie
 
 abbrev Inv-loop : tie.InvT-loop
-Inv-loop a d i j from start v₀ k₀ v k = (k ≤ j) × (v ≡ partial d a i j k)
+Inv-loop a d i j v₀ k₀ v k = (k ≤ j) × (v ≡ partial d a i j k)
 
 abbrev μ-loop : tie.MeasureT-loop
-μ-loop a d i j from start v₀ k₀ v k = j - k
-
-loop-holds : tie.Need-loop-holds Inv-loop μ-loop
-loop-holds c = (omega arith, c .before .pre .4)
+μ-loop a d i j v₀ k₀ v k = j - k
 
 entry-requires : tie.Need-entry-requires Inv-loop μ-loop
 entry-requires c κs = omega arith
 
+loop-holds : tie.Need-loop-holds Inv-loop μ-loop
+loop-holds c = (omega arith, c .entry .ensures ∙ sym (upto-zero _ _))
+
 entry-requires-2 : tie.Need-entry-requires-2 Inv-loop μ-loop
 entry-requires-2 c κs = omega arith
+
+entry-requires-3 : tie.Need-entry-requires-3 Inv-loop μ-loop
+entry-requires-3 c κs = omega arith
 
 add-k : tie.Need-add-k Inv-loop μ-loop
 add-k c = omega arith
@@ -28,13 +32,13 @@ loop-less c = omega arith
 
 loop-again : tie.Need-loop-again Inv-loop μ-loop
 loop-again c =
-    let a = c .before .before .before .before .before .args in
+    let a = c .before .before .before .before .before .before .args in
     let k = c .before .before .before .loop .k in
-    (omega arith, partial-more (a .d) (a .a .now) (a .i) (a .j) k _ _ (c .before .before .before .loop .inv .1) (taken (a .d) (a .a .now) (a .i) (a .j) k _ _ _ (c .before .entry .ensures) (c .entry2 .ensures)))
+    (omega arith, partial-more (a .d) (a .a .now) (a .i) (a .j) k _ _ (c .before .before .before .loop .inv .1) (taken (a .d) (a .a .now) (a .i) (a .j) k _ _ _ (c .before .entry2 .ensures) (c .entry3 .ensures)))
 
 returns : tie.Need-returns Inv-loop μ-loop
 returns c =
-    let e : c .before .loop .k ≡ c .before .before .before .args .j = omega arith in
+    let e : c .before .loop .k ≡ c .before .before .before .before .args .j = omega arith in
     rw e at (c .before .loop .inv .1) ∙ partial-all _ _ _ _
 
 pub remainder-spec : {M : Type 1} → statement M
@@ -43,9 +47,10 @@ remainder-spec =
     (tie.spec
     Inv-loop
     μ-loop
-    loop-holds
     entry-requires
+    loop-holds
     entry-requires-2
+    entry-requires-3
     add-k
     loop-less
     loop-again
