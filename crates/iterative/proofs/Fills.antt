@@ -7,13 +7,13 @@ use native.Mathlib.Nat.{add-zero, zero-add}
 use native.Mathlib.Numerals.{add-one}
 use native.Mathlib.Omega.{arith}
 use lib.Dec.{eqb}
-use lib.ListN.{getD}
+use lib.ListN.{getD, length}
 use lib.Ieee.{Float, add, binary64, lt, nan}
 use lib.Ieee.Scale.{finite}
-use Rattle.field.proofs.Buffers.{at-load, getD-part, seen-before, vector-lawful}
-use Rattle.field.proofs.Counting.{upto-suc}
+use Rattle.field.proofs.Buffers.{at-load, get-store, getD-part, seen-before, vector-lawful}
+use Rattle.field.proofs.Counting.{getD-field, length-field, upto-suc}
 use Rattle.field.specs.Buffer.{get, load, part, store, vector}
-use Rattle.field.specs.Count.{upto}
+use Rattle.field.specs.Count.{field, upto}
 use Rattle.field.specs.Vec.{minus, null, origin, over, plus}
 use Rattle.field.specs.declared.Vec3.{Vec3}
 use Rattle.system.specs.System.{noTerm, one, termAt}
@@ -111,3 +111,35 @@ dot-more f g a i s t e k = rw (add-one, upto-suc, ← e) k
 pub dot-done : (n a : ℕ) (f g : List Vec3) (s : Vec3) → s ≡ upto (dotStep a f g) n origin → s ≡ fieldDot n a f g
 unfolding fieldDot
 dot-done n a f g s e = e
+
+stored : (g : ℕ → Vec3) (l w : List Float) (p n i : ℕ) → w ≡ store vector l p (field (i + 1) g) → p + 3 * n ≤ length l → i < n → get vector w (p + 3 * i) ≡ at (field n g) i
+stored g l w p n i e m h =
+    let size : length (field (i + 1) g) ≡ i + 1 = length-field (i + 1) g in
+    rw e (get-store vector vector-lawful l p (field (i + 1) g) i origin (omega arith) (omega arith)) ∙ getD-field (i + 1) g i origin (omega arith) ∙ sym (getD-field n g i origin h)
+
+-- a dot that rides on the pass that stores its second field: w has i + 1 of its vectors stored from p on
+rides : (g : ℕ → Vec3) (l w : List Float) (p q a n i : ℕ) (s t : Vec3) → w ≡ store vector l p (field (i + 1) g) → q + 3 * n ≤ p → p + 3 * n ≤ length l → i < n →
+    s ≡ upto (dotStep a (load vector l q n) (field n g)) i origin → t ≡ dotStep a (load vector w q n) (load vector w p n) i s → t ≡ upto (dotStep a (load vector l q n) (field n g)) (i + 1) origin
+unfolding dotStep
+rides g l w p q a n i s t e k m h f d =
+    let x : at (load vector w q n) i ≡ at (load vector l q n) i = at-load vector w q n i origin h ∙ seen-before vector vector vector-lawful l w p _ q n i origin e k h in
+    let y : at (load vector w p n) i ≡ at (field n g) i = at-load vector w p n i origin h ∙ stored g l w p n i e m h in
+    rw (add-one, upto-suc, ← f) (d ∙ rw (x, y))
+
+pub preconditioned-rides : (d : ℕ → Float) (l w : List Float) (p q a n i : ℕ) (s t : Vec3) → let r = load vector l q n in let z = preconditioned n a d r in w ≡ store vector l p (preconditioned (i + 1) a d r) → q + 3 * n ≤ p → p + 3 * n ≤ length l → i < n →
+    s ≡ upto (dotStep a r z) i origin → t ≡ dotStep a (load vector w q n) (load vector w p n) i s → t ≡ upto (dotStep a r z) (i + 1) origin
+unfolding preconditioned
+preconditioned-rides d l w p q a n i s t = rides _ l w p q a n i s t
+
+-- a dot of a field with itself, on the pass that stores it
+rides-own : (g : ℕ → Vec3) (l w : List Float) (p a n i : ℕ) (s t : Vec3) → w ≡ store vector l p (field (i + 1) g) → p + 3 * n ≤ length l → i < n →
+    s ≡ upto (dotStep a (field n g) (field n g)) i origin → t ≡ dotStep a (load vector w p n) (load vector w p n) i s → t ≡ upto (dotStep a (field n g) (field n g)) (i + 1) origin
+unfolding dotStep
+rides-own g l w p a n i s t e m h f d =
+    let y : at (load vector w p n) i ≡ at (field n g) i = at-load vector w p n i origin h ∙ stored g l w p n i e m h in
+    rw (add-one, upto-suc, ← f) (d ∙ rw y)
+
+pub advanced-rides : (op : Float → Float → Float) (active : Active) (alpha : Vec3) (f g : List Vec3) (l w : List Float) (p a n i : ℕ) (s t : Vec3) → let y = advanced n a op active alpha f g in w ≡ store vector l p (advanced (i + 1) a op active alpha f g) → p + 3 * n ≤ length l → i < n →
+    s ≡ upto (dotStep a y y) i origin → t ≡ dotStep a (load vector w p n) (load vector w p n) i s → t ≡ upto (dotStep a y y) (i + 1) origin
+unfolding advanced
+advanced-rides op active alpha f g l w p a n i s t = rides-own _ l w p a n i s t

@@ -29,7 +29,7 @@ module _ (n a : ℕ) (op : List Vec3 → List Vec3) (l : List Float) (R : Roomy 
 
   module _ (r : Round) (l1 : List Float) (new : Vec3)
       (e1 : l1 ≡ store vector l (preconditionedAt n) (preconditioned n a (diagonalOf (load term l 0 n)) (load vector l (residualAt n) n)))
-      (e2 : new ≡ fieldDot n a (load vector l1 (residualAt n) n) (load vector l1 (preconditionedAt n) n)) where
+      (e2 : new ≡ fieldDot n a (load vector l (residualAt n) n) (preconditioned n a (diagonalOf (load term l 0 n)) (load vector l (residualAt n) n))) where
     abbrev z : List Vec3
     z = preconditioned n a (diagonalOf (load term l 0 n)) (load vector l (residualAt n) n)
 
@@ -39,14 +39,11 @@ module _ (n a : ℕ) (op : List Vec3 → List Vec3) (l : List Float) (R : Roomy 
     at-z : load vector l1 (preconditionedAt n) n ≡ z
     at-z = own-field n l _ z l1 e1 size-z (omega (arith, R .room))
 
-    new-is : new ≡ fieldDot n a (load vector l (residualAt n) n) z
-    new-is = e2 ∙ rw (other-field n l _ z l1 (residualAt n) e1 size-z (inr (omega arith)), at-z)
-
     pub turn-kept : Kept n l l1
     turn-kept = kept-store n l _ z l1 e1 size-z (omega arith) (omega arith) (inr (omega arith))
 
     pub turn-failed : (i : ℕ) → component (brokenAt (r .active) (r .old) new) ≡ At i → failed 12 i ≡ turn (held n a l op) (stateOf n l r)
-    turn-failed i h = rw (← new-is, h)
+    turn-failed i h = rw (← e2, h)
 
     module _ (l2 : List Float) (beta : Vec3) (e3 : beta ≡ quotient new (r .old))
         (e4 : l2 ≡ store vector l1 (searchAt n) (searching n (r .active) beta (load vector l1 (preconditionedAt n) n) (load vector l1 (searchAt n) n))) where
@@ -67,7 +64,7 @@ module _ (n a : ℕ) (op : List Vec3 → List Vec3) (l : List Float) (R : Roomy 
           let f : load vector l1 (searchAt n) n ≡ load vector l (searchAt n) n = other-field n l _ z l1 (searchAt n) e1 size-z (inl (omega arith)) in
           let x : load vector l2 (positionsAt n) n ≡ load vector l (positionsAt n) n = other-field n l1 _ p l2 (positionsAt n) e4 size-p (inr (omega arith)) ∙ other-field n l _ z l1 (positionsAt n) e1 size-z (inr (omega arith)) in
           let y : load vector l2 (residualAt n) n ≡ load vector l (residualAt n) n = other-field n l1 _ p l2 (residualAt n) e4 size-p (inr (omega arith)) ∙ other-field n l _ z l1 (residualAt n) e1 size-z (inr (omega arith)) in
-          rw (← new-is, h, x, y, e, at-z, f, e3)
+          rw (← e2, h, x, y, e, at-z, f, e3)
 
   -- ---- the step along the search vector
 
@@ -95,7 +92,7 @@ module _ (n a : ℕ) (op : List Vec3 → List Vec3) (l : List Float) (R : Roomy 
 
     pub moved-done : (bound sums : Vec3) (active : Active) →
         bound ≡ boundOf (fieldDot n a (load vector l (rightAt n) n) (load vector l (rightAt n) n)) →
-        sums ≡ fieldDot n a (load vector l2 (residualAt n) n) (load vector l2 (residualAt n) n) →
+        sums ≡ fieldDot n a y y →
         active ≡ remaining bound (r .active) sums →
         stateOf n l2 (record { old = r .old; active = active; count = r .count + 1 }) ≡ moved (held n a l op) (stateOf n l r) (load vector l (appliedAt n) n) curvature
     unfolding moved squareSum

@@ -115,21 +115,31 @@ pub(crate) fn set_zero(work: &mut [f64], n: usize, into: usize)
     }
 }
 
-// The field at `from` over the diagonal with the ridge, and zero at the anchor.
-pub(crate) fn precondition(work: &mut [f64], n: usize, anchor: usize, from: usize, into: usize)
+// The field at `from` over the diagonal with the ridge, and zero at the anchor. Returned is the dot of the two fields, which rides on the pass.
+pub(crate) fn precondition(
+    work: &mut [f64],
+    n: usize,
+    anchor: usize,
+    from: usize,
+    into: usize,
+) -> Vec3
     requires { ⌜ Ordered n from into (length (now work)) ⌝ }
     ensures { λ r. ⌜ now (work .exit) ≡ store vector (now (work .entry)) into (preconditioned n anchor (diagonalOf (load term (now (work .entry)) 0 n)) (load vector (now (work .entry)) from n)) ⌝ }
+    ensures { λ r. ⌜ r ≡ fieldDot n anchor (load vector (now (work .entry)) from n) (preconditioned n anchor (diagonalOf (load term (now (work .entry)) 0 n)) (load vector (now (work .entry)) from n)) ⌝ }
 {
+    let mut sum = zero();
     let mut i = 0usize;
     while i < n {
         let u = get3(work, from + 3 * i).div(work[5 * i] + 1e-6);
         let v = anchored(i, anchor, zero(), u);
         put3(work, into + 3 * i, v);
+        sum = dot_step(work, n, anchor, from, into, i, sum);
         i += 1;
     }
+    sum
 }
 
-// The field at `into` stepped along the field at `along`, but for the anchor.
+// The field at `into` stepped along the field at `along`, but for the anchor. Returned is its dot with itself, which rides on the pass.
 pub(crate) fn advance(
     work: &mut [f64],
     n: usize,
@@ -139,17 +149,21 @@ pub(crate) fn advance(
     alpha: Vec3,
     into: usize,
     along: usize,
-)
+) -> Vec3
     requires { ⌜ Ordered n into along (length (now work)) ⌝ }
     ensures { λ r. ⌜ now (work .exit) ≡ store vector (now (work .entry)) into (advanced n anchor (signed adds) active alpha (load vector (now (work .entry)) into n) (load vector (now (work .entry)) along n)) ⌝ }
+    ensures { λ r. ⌜ r ≡ fieldDot n anchor (advanced n anchor (signed adds) active alpha (load vector (now (work .entry)) into n) (load vector (now (work .entry)) along n)) (advanced n anchor (signed adds) active alpha (load vector (now (work .entry)) into n) (load vector (now (work .entry)) along n)) ⌝ }
 {
+    let mut sum = zero();
     let mut i = 0usize;
     while i < n {
         let v = get3(work, into + 3 * i);
         let w = stepped(adds, active, alpha, v, get3(work, along + 3 * i));
         put3(work, into + 3 * i, anchored(i, anchor, v, w));
+        sum = dot_step(work, n, anchor, into, into, i, sum);
         i += 1;
     }
+    sum
 }
 
 // The search vector at `into`, renewed along the field at `from`.

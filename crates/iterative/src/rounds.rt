@@ -29,8 +29,7 @@ fn turn(work: &mut [f64], n: usize, anchor: usize, r: Round) -> Step
 {
     let active = r.active;
     let old = r.old;
-    precondition(work, n, anchor, 11 * n, 14 * n);
-    let new = field_dot(work, n, anchor, 11 * n, 14 * n);
+    let new = precondition(work, n, anchor, 11 * n, 14 * n);
     let place = broken(active, old, new);
     match place {
         Place::At(i) => Step::Failed(12, i),
@@ -75,8 +74,7 @@ fn move_along(
     let old = r.old;
     let alpha = quotient(old, curvature);
     advance(work, n, anchor, true, active, alpha, 5 * n, 17 * n);
-    advance(work, n, anchor, false, active, alpha, 11 * n, 20 * n);
-    let sums = field_dot(work, n, anchor, 11 * n, 11 * n);
+    let sums = advance(work, n, anchor, false, active, alpha, 11 * n, 20 * n);
     Round {
         old: old,
         active: remaining(bound, active, sums),

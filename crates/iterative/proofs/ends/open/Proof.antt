@@ -34,7 +34,7 @@ same-length : tie.Need-same-length
 same-length c = search needs
 
 returns : tie.Need-returns
-returns c = opened-done _ _ _ _ _ _ _ (c .before .before .before .before .before .before .before .before .before .before .before .before .before .before .before .before .before .pre) (c .before .before .before .before .before .before .before .before .before .before .before .before .before .before .set-right .ensures) (c .before .before .before .before .before .before .before .before .before .before .set-zero .ensures) (c .before .before .before .before .before .before .set-right2 .ensures) (c .before .before .precondition .ensures)
+returns c = opened-done _ _ _ _ _ _ _ (c .before .before .before .before .before .before .before .before .before .before .before .before .before .before .before .before .before .pre) (c .before .before .before .before .before .before .before .before .before .before .before .before .before .before .set-right .ensures) (c .before .before .before .before .before .before .before .before .before .before .set-zero .ensures) (c .before .before .before .before .before .before .set-right2 .ensures) (c .before .before .precondition .ensures .0)
 
 pub open-spec : {M : Type 1} → statement M
 open-spec =

@@ -25,30 +25,25 @@ mul-advance-4 c = search needs
 advance-requires-2 : tie.Need-advance-requires-2
 advance-requires-2 c κs = search needs
 
-mul-field-dot : tie.Need-mul-field-dot
-mul-field-dot c = search needs
-
-mul-field-dot-2 : tie.Need-mul-field-dot-2
-mul-field-dot-2 c = search needs
-
-field-dot-requires : tie.Need-field-dot-requires
-field-dot-requires c κs = search needs
-
 remaining-requires : tie.Need-remaining-requires
 remaining-requires c κs = search needs
 
-add-t15 : tie.Need-add-t15
-add-t15 c = omega (arith, c .before .before .before .before .before .before .before .before .before .before .before .before .before .before .before .before .pre .1 .1)
+add-t14 : tie.Need-add-t14
+add-t14 c = omega (arith, c .before .before .before .before .before .before .before .before .before .before .before .before .before .before .pre .1 .1)
 
 same-length : tie.Need-same-length
 same-length c = search needs
 
 returns : tie.Need-returns
 returns c =
-    let R = c .before .before .before .before .before .before .before .before .before .before .before .before .before .before .before .before .pre .0 in
+    let R = c .before .before .before .before .before .before .before .before .before .before .before .before .before .before .pre .0 in
+    let r = c .before .before .before .before .before .before .before .before .before .before .before .before .before .before .args .r in
+    let alpha = c .before .before .before .before .before .before .before .before .before .before .quotient .ensures in
+    let e = c .before .before .before .before .before .before .before .before .advance .ensures in
+    let f = c .before .before .before .before .advance2 .ensures in
     record {
-      state = λ op. moved-done _ _ op _ R (c .before .before .before .before .before .before .before .before .before .before .before .before .before .before .before .before .args .r) _ _ _ _ (c .before .before .before .before .before .before .before .before .before .before .before .before .quotient .ensures) (c .before .before .before .before .before .before .before .before .before .before .advance .ensures) (c .before .before .before .before .before .before .advance2 .ensures) _ _ _ (c .before .before .before .before .before .before .before .before .before .before .before .before .before .before .before .before .pre .1 .0) (c .before .before .field-dot .ensures) (c .before .remaining .ensures);
-      kept = moved-kept _ _ (λ f. f) _ R (c .before .before .before .before .before .before .before .before .before .before .before .before .before .before .before .before .args .r) _ _ _ _ (c .before .before .before .before .before .before .before .before .before .before .before .before .quotient .ensures) (c .before .before .before .before .before .before .before .before .before .before .advance .ensures) (c .before .before .before .before .before .before .advance2 .ensures);
+      state = λ op. moved-done _ _ op _ R r _ _ _ _ alpha (e .0) (f .0) _ _ _ (c .before .before .before .before .before .before .before .before .before .before .before .before .before .before .pre .1 .0) (f .1) (c .before .remaining .ensures);
+      kept = moved-kept _ _ (λ f. f) _ R r _ _ _ _ alpha (e .0) (f .0);
     }
 
 pub move-along-spec : {M : Type 1} → statement M
@@ -62,10 +57,7 @@ move-along-spec =
     mul-advance-3
     mul-advance-4
     advance-requires-2
-    mul-field-dot
-    mul-field-dot-2
-    field-dot-requires
     remaining-requires
-    add-t15
+    add-t14
     same-length
     returns)

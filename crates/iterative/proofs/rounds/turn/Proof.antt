@@ -13,15 +13,6 @@ mul-precondition-2 c = search needs
 precondition-requires : tie.Need-precondition-requires
 precondition-requires c κs = search needs
 
-mul-field-dot : tie.Need-mul-field-dot
-mul-field-dot c = search needs
-
-mul-field-dot-2 : tie.Need-mul-field-dot-2
-mul-field-dot-2 c = search needs
-
-field-dot-requires : tie.Need-field-dot-requires
-field-dot-requires c κs = search needs
-
 broken-requires : tie.Need-broken-requires
 broken-requires c κs = search needs
 
@@ -48,10 +39,11 @@ same-length c = search needs
 
 returns : tie.Need-returns
 returns c =
-    let R = c .before .before .before .before .before .before .before .before .before .before .before .before .before .pre in
+    let R = c .before .before .before .before .before .before .before .before .before .before .before .pre in
+    let e = c .before .before .before .before .before .before .precondition .ensures in
     record {
-      run = λ op. turn-failed _ _ op _ R (c .before .before .before .before .before .before .before .before .before .before .before .before .before .args .r) _ _ (c .before .before .before .before .before .before .before .before .precondition .ensures) (c .before .before .before .before .field-dot .ensures) _ (sym (c .before .before .before .broken .ensures) ∙ c .before .place .given .1);
-      kept = turn-kept _ _ (λ f. f) _ R (c .before .before .before .before .before .before .before .before .before .before .before .before .before .args .r) _ _ (c .before .before .before .before .before .before .before .before .precondition .ensures) (c .before .before .before .before .field-dot .ensures);
+      run = λ op. turn-failed _ _ op _ R (c .before .before .before .before .before .before .before .before .before .before .before .args .r) _ _ (e .0) (e .1) _ (sym (c .before .before .before .broken .ensures) ∙ c .before .place .given .1);
+      kept = turn-kept _ _ (λ f. f) _ R (c .before .before .before .before .before .before .before .before .before .before .before .args .r) _ _ (e .0) (e .1);
     }
 
 same-length-2 : tie.Need-same-length-2
@@ -59,10 +51,11 @@ same-length-2 c = search needs
 
 returns-2 : tie.Need-returns-2
 returns-2 c =
-    let R = c .before .before .before .before .before .before .before .before .before .before .before .before .before .before .before .before .before .pre in
+    let R = c .before .before .before .before .before .before .before .before .before .before .before .before .before .before .before .pre in
+    let e = c .before .before .before .before .before .before .before .before .before .before .precondition .ensures in
     record {
-      run = λ op. turn-going _ _ op _ R (c .before .before .before .before .before .before .before .before .before .before .before .before .before .before .before .before .before .args .r) _ _ (c .before .before .before .before .before .before .before .before .before .before .before .before .precondition .ensures) (c .before .before .before .before .before .before .before .before .field-dot .ensures) _ _ (c .before .before .before .quotient .ensures) (c .before .before .renew .ensures) (sym (c .before .before .before .before .before .before .before .broken .ensures) ∙ c .before .before .before .before .before .enum-told .given .1);
-      kept = turn-kept-too _ _ (λ f. f) _ R (c .before .before .before .before .before .before .before .before .before .before .before .before .before .before .before .before .before .args .r) _ _ (c .before .before .before .before .before .before .before .before .before .before .before .before .precondition .ensures) (c .before .before .before .before .before .before .before .before .field-dot .ensures) _ _ (c .before .before .before .quotient .ensures) (c .before .before .renew .ensures);
+      run = λ op. turn-going _ _ op _ R (c .before .before .before .before .before .before .before .before .before .before .before .before .before .before .before .args .r) _ _ (e .0) (e .1) _ _ (c .before .before .before .quotient .ensures) (c .before .before .renew .ensures) (sym (c .before .before .before .before .before .before .before .broken .ensures) ∙ c .before .before .before .before .before .enum-told .given .1);
+      kept = turn-kept-too _ _ (λ f. f) _ R (c .before .before .before .before .before .before .before .before .before .before .before .before .before .before .before .args .r) _ _ (e .0) (e .1) _ _ (c .before .before .before .quotient .ensures) (c .before .before .renew .ensures);
     }
 
 pub turn-spec : {M : Type 1} → statement M
@@ -72,9 +65,6 @@ turn-spec =
     mul-precondition
     mul-precondition-2
     precondition-requires
-    mul-field-dot
-    mul-field-dot-2
-    field-dot-requires
     broken-requires
     enum-known-place
     enum-told
