@@ -3,4 +3,5 @@ pub mod Standing
 pub mod Outside
 pub mod Fills
 pub mod Passes
+pub mod Sights
 pub mod Operands

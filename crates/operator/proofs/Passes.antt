@@ -140,13 +140,20 @@ module _ (net : Network) (a : ℕ) (l : List Float) (from into : ℕ) (O : Order
   point-skipped p P h t =
       rw (← weight-at net l P p h, t) (sym (store-load vector vector-lawful l into _ (omega (arith, O .last, O .room))))
 
+  pub point-met : (p : ℕ) (w : List Float) → let n = net .graph .shape .cameras in let x = load vector l from n in
+      Posed net l → p < net .graph .shape .points → lt (getD l (weightsAt n + p) nan) tiny ≡ false →
+      w ≡ store vector l into (upto (listStep net a x p (meanAt net x p)) (listSize net p) (load vector l into n)) →
+      w ≡ store vector l into (pointStep net a x p (load vector l into n))
+  unfolding pointStep
+  point-met p w P h t g = rw (← weight-at net l P p h, t) g
+
   pub point-taken : (p : ℕ) (s u : Vec3) (w : List Float) → let n = net .graph .shape .cameras in let x = load vector l from n in
       Posed net l → p < net .graph .shape .points → lt (getD l (weightsAt n + p) nan) tiny ≡ false →
       s ≡ upto (meanStep net x p) (listSize net p) origin → u ≡ over s (getD l (weightsAt n + p) nan) →
       w ≡ store vector l into (upto (listStep net a x p u) (listSize net p) (load vector l into n)) →
       w ≡ store vector l into (pointStep net a x p (load vector l into n))
-  unfolding pointStep meanAt
-  point-taken p s u w P h t e f g = rw (← weight-at net l P p h, t, ← e, ← f) g
+  unfolding meanAt
+  point-taken p s u w P h t e f g = point-met p w P h t (rw (← weight-at net l P p h, ← e, ← f) g)
 
   -- what the passes after the first find
   pub ridged-posed : (w : List Float) → let n = net .graph .shape .cameras in Posed net l → w ≡ store vector l into (ridged n a (load vector l from n)) → Posed net w

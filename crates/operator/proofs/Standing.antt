@@ -9,9 +9,9 @@ use Rattle.field.proofs.Buffers.{getD-part}
 use Rattle.field.proofs.Counting.{getD-field}
 use Rattle.field.specs.Buffer.{part}
 use Rattle.field.specs.Count.{field}
-use Rattle.network.specs.Network.{Network, first, listSize, offset, rows}
+use Rattle.network.specs.Network.{Network, first, listSize, listedAt, offset, rows}
 use Rattle.network.specs.Sound.{NetworkSound}
-use Rattle.system.specs.System.{effective, pointWeight, rowOf}
+use Rattle.system.specs.System.{effective, pointWeight}
 use Rattle.system.specs.Work.{effectiveAt, weightsAt}
 use Rattle.operator.specs.Posed.{Ordered, Posed, camerasOf}
 
@@ -26,17 +26,21 @@ module _ (net : Network) (l : List Float) (P : Posed net l) where
   pub weight-at : (p : ℕ) → p < net .graph .shape .points → getD l (weightsAt (camerasOf net) + p) nan ≡ pointWeight net p
   weight-at p h = seen-part l _ _ p (pointWeight net) (P .segments .weights) h
 
--- the i-th row that point p lists: its place in the lists, its number, its camera
-pub record Listed (net : Network) (p i : ℕ) : Type 0 where
-  pub place : offset net p + i < net .graph .shape .bearings
-  pub row : rowOf net p i < net .graph .shape .bearings
-  pub camera : first (net .graph) (rowOf net p i) < net .graph .shape .cameras
+-- the row at place k of the point lists: the place, its number, its camera
+pub record Placed (net : Network) (k : ℕ) : Type 0 where
+  pub place : k < net .graph .shape .bearings
+  pub row : listedAt net k < net .graph .shape .bearings
+  pub camera : first (net .graph) (listedAt net k) < net .graph .shape .cameras
 
-pub listed-row : {net : Network} → NetworkSound net → (p i : ℕ) → p < net .graph .shape .points → i < listSize net p → Listed net p i
-listed-row {net} S p i h k =
-    let a : offset net p + i < net .graph .shape .bearings = omega (arith, S .within (p + 1) (omega arith)) in
-    let b = S .bearing (offset net p + i) a in
-    record { place = a; row = b; camera = S .ends .camera (rowOf net p i) (omega arith) }
+-- one that point p lists
+pub placed-row : {net : Network} → NetworkSound net → (p k : ℕ) → p < net .graph .shape .points → k < offset net (p + 1) → Placed net k
+placed-row {net} S p k h b =
+    let a : k < net .graph .shape .bearings = omega (arith, S .within (p + 1) (omega arith)) in
+    let r = S .bearing k a in
+    record { place = a; row = r; camera = S .ends .camera (listedAt net k) (omega arith) }
+
+pub listed-row : {net : Network} → NetworkSound net → (p i : ℕ) → p < net .graph .shape .points → i < listSize net p → Placed net (offset net p + i)
+listed-row S p i h k = placed-row S p _ h (omega arith)
 
 -- a buffer of the same length
 pub ordered-in : {n from into size : ℕ} (size' : ℕ) → Ordered n from into size → size' ≡ size → Ordered n from into size'

@@ -1,10 +1,12 @@
 // The reduced camera system, matrix-free. The effective weights and the point weights stand in the work buffer.
+mod four;
 pub mod held;
 
 use field::Vec3;
 use field::gain3;
 use field::get3;
 use field::put3;
+use four::four_step;
 use held::row_pull;
 ghost use mathlib.Core.Path.{_≡_};
 ghost use mathlib.Core.Bool.{cond};
@@ -223,6 +225,28 @@ fn point_step(
 {
     let w = work[23 * n + p];
     if w < 1e-12 {
+        return;
+    }
+    if offsets[p + 1] - offsets[p] == 4 {
+        four_step(
+            n,
+            m,
+            b,
+            e,
+            ends,
+            rays,
+            weights,
+            scales,
+            points,
+            offsets,
+            listed,
+            anchor,
+            work,
+            from,
+            into,
+            p,
+            w,
+        );
         return;
     }
     let u = point_sum(
