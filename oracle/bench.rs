@@ -159,7 +159,7 @@ fn table(name: &str, net: &Network, route: usize, limit: usize, runs: usize) {
     let whole_solve = sums + assembly + pick + solve + points;
 
     #[allow(unused_mut)]
-    let mut port: [Option<Duration>; 4] = [None; 4];
+    let mut port: [Option<Duration>; 5] = [None; 5];
     #[cfg(port)]
     {
         let same = |left: &[f64], right: &[f64]| left.iter().zip(right).all(|(l, r)| l.to_bits() == r.to_bits() || (l.is_nan() && r.is_nan()));
@@ -180,6 +180,10 @@ fn table(name: &str, net: &Network, route: usize, limit: usize, runs: usize) {
         let (time, number) = best(runs.max(3), || lent.connected());
         port[3] = Some(time);
         assert!(number == 0 && lent.report[0] == whole as usize, "{name}: connectivity differs");
+        // every test is passed but the last, 8
+        let (time, number) = best(runs.max(3), || lent.solve(route, 257));
+        port[4] = Some(time);
+        assert!(number == 8, "{name}: a limit of 257 is not refused");
     }
     let _ = (&placed, limit);
     line(name, "sums and assembly", sums + assembly + pick, None, "");
@@ -189,6 +193,9 @@ fn table(name: &str, net: &Network, route: usize, limit: usize, runs: usize) {
     line(name, "dots", dots, port[1], "");
     line(name, "scales (the port's forms W again)", scales, port[2], "");
     line(name, "connectivity", connected, port[3], if whole { "connected" } else { "not connected" });
+    if let Some(tests) = port[4] {
+        println!("| {name} | tests 1 to 8 alone | - | {:.3} | - | in each call of the port; connectivity has fewer |", tests.as_secs_f64() * 1e3);
+    }
 }
 
 /// The ordinary small networks that fit the solve program's image, all together.

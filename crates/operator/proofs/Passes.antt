@@ -16,7 +16,7 @@ use Rattle.field.specs.Count.{upto}
 use Rattle.field.specs.Vec.{minus, origin, over, plus, scale}
 use Rattle.field.specs.declared.Vec3.{Vec3}
 use Rattle.network.specs.Network.{Network, first, listSize, rows, second}
-use Rattle.system.specs.System.{rowOf, tiny}
+use Rattle.system.specs.System.{pointWeight, rowOf, tiny}
 use Rattle.system.specs.Work.{effectiveAt, weightsAt}
 use Rattle.operator.proofs.OperatorLaws.{changed-length, length-list, length-point, length-direction}
 use Rattle.operator.proofs.Outside.{outside-store, posed-outside}
@@ -122,6 +122,14 @@ module _ (net : Network) (l : List Float) (P : Posed net l) where
       ∙ through vector vector vector-lawful (λ x z. changed plus a t v z) l m from n into n y f size (inr (omega (arith, O .apart))) (omega (arith, O .last, O .room))
       (changed-length plus a t v y ∙ size))
 
+-- the bearings of a point with the mean of its cameras, which is their sum over the point's weight
+pub mean-taken : (net : Network) (a : ℕ) (x y : List Vec3) (l m : List Float) (into p : ℕ) (s u : Vec3) (w : Float) →
+    w ≡ pointWeight net p → s ≡ upto (meanStep net x p) (listSize net p) origin → u ≡ over s w →
+    m ≡ store vector l into (upto (listStep net a x p u) (listSize net p) y) →
+    m ≡ store vector l into (upto (listStep net a x p (meanAt net x p)) (listSize net p) y)
+unfolding meanAt
+mean-taken net a x y l m into p s u w h e f g = rw (← h, ← e, ← f) g
+
 -- ---- the passes
 
 module _ (net : Network) (a : ℕ) (l : List Float) (from into : ℕ) (O : Ordered (camerasOf net) from into (length l)) where
@@ -146,14 +154,6 @@ module _ (net : Network) (a : ℕ) (l : List Float) (from into : ℕ) (O : Order
       w ≡ store vector l into (pointStep net a x p (load vector l into n))
   unfolding pointStep
   point-met p w P h t g = rw (← weight-at net l P p h, t) g
-
-  pub point-taken : (p : ℕ) (s u : Vec3) (w : List Float) → let n = net .graph .shape .cameras in let x = load vector l from n in
-      Posed net l → p < net .graph .shape .points → lt (getD l (weightsAt n + p) nan) tiny ≡ false →
-      s ≡ upto (meanStep net x p) (listSize net p) origin → u ≡ over s (getD l (weightsAt n + p) nan) →
-      w ≡ store vector l into (upto (listStep net a x p u) (listSize net p) (load vector l into n)) →
-      w ≡ store vector l into (pointStep net a x p (load vector l into n))
-  unfolding meanAt
-  point-taken p s u w P h t e f g = point-met p w P h t (rw (← weight-at net l P p h, ← e, ← f) g)
 
   -- what the passes after the first find
   pub ridged-posed : (w : List Float) → let n = net .graph .shape .cameras in Posed net l → w ≡ store vector l into (ridged n a (load vector l from n)) → Posed net w

@@ -1,13 +1,16 @@
 // The reduced camera system, matrix-free. The effective weights and the point weights stand in the work buffer.
-mod four;
 pub mod held;
+mod short;
 
 use field::Vec3;
 use field::gain3;
 use field::get3;
 use field::put3;
-use four::four_step;
 use held::row_pull;
+use short::four_step;
+use short::seen;
+use short::three_step;
+use short::two_step;
 ghost use mathlib.Core.Path.{_≡_};
 ghost use mathlib.Core.Bool.{cond};
 ghost use Prim.Native.Nat.{_+_, _*_, _<_, _≤_};
@@ -17,7 +20,8 @@ ghost use Rattle.field.specs.Vec.{origin, plus, minus};
 ghost use Rattle.field.specs.Count.{upto};
 ghost use Rattle.field.specs.Buffer.{load, store, vector};
 ghost use Rattle.network.specs.Network.{Network, lent, listSize};
-ghost use Rattle.operator.specs.Operator.{changed, ridged, meanStep, bearingStep, listStep, pointStep, directionStep, reduced};
+ghost use Rattle.system.specs.System.{pointWeight};
+ghost use Rattle.operator.specs.Operator.{changed, ridged, meanAt, meanStep, bearingStep, listStep, pointStep, directionStep, reduced};
 ghost use Rattle.operator.specs.Posed.{Posed, Ordered};
 
 // u at the anchor, v at any other camera i.
@@ -197,8 +201,8 @@ fn point_gain(
     }
 }
 
-// Point p, skipped where its weight is below 1e-12.
-fn point_step(
+// Point p of weight w: the mean of its cameras, then bearing by bearing.
+fn long_step(
     n: usize,
     m: usize,
     b: usize,
@@ -215,40 +219,16 @@ fn point_step(
     from: usize,
     into: usize,
     p: usize,
+    w: f64,
 )
     ghost { Network }
     requires { λ net. ⌜ lent n m b e (now ends) (now rays) (now weights) (now scales) (now points) (now offsets) (now listed) ≡ net ⌝ }
     requires { λ net. ⌜ Posed net (now work) ⌝ }
     requires { λ net. ⌜ Ordered n from into (length (now work)) ⌝ }
     requires { λ net. ⌜ p < m ⌝ }
-    ensures { λ net x. ⌜ now (work .exit) ≡ store vector (now (work .entry)) into (pointStep net anchor (load vector (now (work .entry)) from n) p (load vector (now (work .entry)) into n)) ⌝ }
+    requires { λ net. ⌜ w ≡ pointWeight net p ⌝ }
+    ensures { λ net x. ⌜ now (work .exit) ≡ store vector (now (work .entry)) into (upto (listStep net anchor (load vector (now (work .entry)) from n) p (meanAt net (load vector (now (work .entry)) from n) p)) (listSize net p) (load vector (now (work .entry)) into n)) ⌝ }
 {
-    let w = work[23 * n + p];
-    if w < 1e-12 {
-        return;
-    }
-    if offsets[p + 1] - offsets[p] == 4 {
-        four_step(
-            n,
-            m,
-            b,
-            e,
-            ends,
-            rays,
-            weights,
-            scales,
-            points,
-            offsets,
-            listed,
-            anchor,
-            work,
-            from,
-            into,
-            p,
-            w,
-        );
-        return;
-    }
     let u = point_sum(
         n,
         m,
@@ -283,6 +263,129 @@ fn point_step(
         into,
         p,
         u,
+    );
+}
+
+// The same; of a list of two, three or four each bearing is read once.
+fn list_step(
+    n: usize,
+    m: usize,
+    b: usize,
+    e: usize,
+    ends: &[usize],
+    rays: &[f64],
+    weights: &[f64],
+    scales: &[f64],
+    points: &[f64],
+    offsets: &[usize],
+    listed: &[usize],
+    anchor: usize,
+    work: &mut [f64],
+    from: usize,
+    into: usize,
+    p: usize,
+    w: f64,
+)
+    ghost { Network }
+    requires { λ net. ⌜ lent n m b e (now ends) (now rays) (now weights) (now scales) (now points) (now offsets) (now listed) ≡ net ⌝ }
+    requires { λ net. ⌜ Posed net (now work) ⌝ }
+    requires { λ net. ⌜ Ordered n from into (length (now work)) ⌝ }
+    requires { λ net. ⌜ p < m ⌝ }
+    requires { λ net. ⌜ w ≡ pointWeight net p ⌝ }
+    ensures { λ net x. ⌜ now (work .exit) ≡ store vector (now (work .entry)) into (upto (listStep net anchor (load vector (now (work .entry)) from n) p (meanAt net (load vector (now (work .entry)) from n) p)) (listSize net p) (load vector (now (work .entry)) into n)) ⌝ }
+{
+    let at = 23 * n + 4 * m;
+    let k = offsets[p];
+    let size = offsets[p + 1] - k;
+    match size {
+        2 => {
+            let s0 = seen(ends, listed, work, at, from, k);
+            let s1 = seen(ends, listed, work, at, from, k + 1);
+            two_step(work, n, anchor, into, s0, s1, w);
+        }
+        3 => {
+            let s0 = seen(ends, listed, work, at, from, k);
+            let s1 = seen(ends, listed, work, at, from, k + 1);
+            let s2 = seen(ends, listed, work, at, from, k + 2);
+            three_step(work, n, anchor, into, s0, s1, s2, w);
+        }
+        4 => {
+            let s0 = seen(ends, listed, work, at, from, k);
+            let s1 = seen(ends, listed, work, at, from, k + 1);
+            let s2 = seen(ends, listed, work, at, from, k + 2);
+            let s3 = seen(ends, listed, work, at, from, k + 3);
+            four_step(work, n, anchor, into, s0, s1, s2, s3, w);
+        }
+        _ => long_step(
+            n,
+            m,
+            b,
+            e,
+            ends,
+            rays,
+            weights,
+            scales,
+            points,
+            offsets,
+            listed,
+            anchor,
+            work,
+            from,
+            into,
+            p,
+            w,
+        ),
+    }
+}
+
+// Point p, skipped where its weight is below 1e-12.
+fn point_step(
+    n: usize,
+    m: usize,
+    b: usize,
+    e: usize,
+    ends: &[usize],
+    rays: &[f64],
+    weights: &[f64],
+    scales: &[f64],
+    points: &[f64],
+    offsets: &[usize],
+    listed: &[usize],
+    anchor: usize,
+    work: &mut [f64],
+    from: usize,
+    into: usize,
+    p: usize,
+)
+    ghost { Network }
+    requires { λ net. ⌜ lent n m b e (now ends) (now rays) (now weights) (now scales) (now points) (now offsets) (now listed) ≡ net ⌝ }
+    requires { λ net. ⌜ Posed net (now work) ⌝ }
+    requires { λ net. ⌜ Ordered n from into (length (now work)) ⌝ }
+    requires { λ net. ⌜ p < m ⌝ }
+    ensures { λ net x. ⌜ now (work .exit) ≡ store vector (now (work .entry)) into (pointStep net anchor (load vector (now (work .entry)) from n) p (load vector (now (work .entry)) into n)) ⌝ }
+{
+    let w = work[23 * n + p];
+    if w < 1e-12 {
+        return;
+    }
+    list_step(
+        n,
+        m,
+        b,
+        e,
+        ends,
+        rays,
+        weights,
+        scales,
+        points,
+        offsets,
+        listed,
+        anchor,
+        work,
+        from,
+        into,
+        p,
+        w,
     );
 }
 

@@ -1,7 +1,7 @@
 use mathlib.Core.Path.{_∙_}
 use borrow.Author.Needs.{needs}
-use Rattle.operator.proofs.four.push.Statement.{statement}
-use Rattle.operator.proofs.four.push.Tie as tie
+use Rattle.operator.proofs.short.push.Statement.{statement}
+use Rattle.operator.proofs.short.push.Tie as tie
 
 pull-requires : tie.Need-pull-requires
 pull-requires c κs = search needs

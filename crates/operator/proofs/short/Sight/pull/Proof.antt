@@ -1,7 +1,7 @@
 use mathlib.Core.Path.{_∙_}
 use borrow.Author.Needs.{needs}
-use Rattle.operator.proofs.four.Sight.pull.Statement.{statement}
-use Rattle.operator.proofs.four.Sight.pull.Tie as tie
+use Rattle.operator.proofs.short.Sight.pull.Statement.{statement}
+use Rattle.operator.proofs.short.Sight.pull.Tie as tie
 
 sub-requires : tie.Need-sub-requires
 sub-requires c κs = search needs

@@ -1,7 +1,7 @@
 use mathlib.Core.Path.{_∙_}
 use borrow.Author.Needs.{needs}
-use Rattle.operator.proofs.four.Sight.added.Statement.{statement}
-use Rattle.operator.proofs.four.Sight.added.Tie as tie
+use Rattle.operator.proofs.short.Sight.added.Statement.{statement}
+use Rattle.operator.proofs.short.Sight.added.Tie as tie
 
 mul-requires : tie.Need-mul-requires
 mul-requires c κs = search needs
