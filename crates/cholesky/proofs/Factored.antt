@@ -1,9 +1,8 @@
 -- The steps of the factor and of the substitutions, as code tells them. Assumes nothing.
-use mathlib.Core.Path.{_≡_, sym, ap, _∙_}
-use mathlib.Core.Bool.{Bool, true, false}
+use mathlib.Core.Path.{_≡_, sym}
+use mathlib.Core.Bool.{Bool, true, false, _&&_}
 use mathlib.Core.List.{List}
-use Prim.Native.Nat.{ℕ, suc, _+_, _*_, _≤_, _<_}
-use native.Mathlib.Omega.{arith}
+use Prim.Native.Nat.{ℕ, _+_, _*_, _<_}
 use lib.ListN.{set}
 use lib.Ieee.{Float, binary64, div, lt}
 use lib.Ieee.Scale.{finite}
@@ -11,8 +10,8 @@ use Rattle.field.specs.Vec.{null}
 use Rattle.sqrt.specs.Root.{root}
 use Rattle.cholesky.specs.declared.Solve.{Solve}
 use Rattle.cholesky.specs.declared.Solve.the-variants.{Done, Stopped}
-use Rattle.cholesky.specs.Cholesky.{Result, done, stopped, then, run, ended, entry, remainder, factorEntry, pivot, factorRow, factor}
-use Rattle.cholesky.proofs.Runs.{run-more, run-stays, run-stops, run-two}
+use Rattle.cholesky.specs.Cholesky.{Result, done, stopped, run, ended, entry, remainder, factorEntry, pivot, factorRow}
+use Rattle.cholesky.proofs.Runs.{run-stops}
 
 module _ (d : ℕ) where
   pub entry-done : (i j : ℕ) (A : List Float) (v w : Float) (b : Bool) → v ≡ remainder d A i j → w ≡ entry d A j j → b ≡ finite (div binary64 v w) → b ≡ true → done (set A (i * d + j) (div binary64 v w)) ≡ factorEntry d i j A
@@ -35,11 +34,11 @@ module _ (d : ℕ) where
   unfolding pivot
   pivot-low i A v b e f t u = rw (← e, ← f, t, u)
 
-  -- a row: its entries in order, then its pivot
-  pub row-stays : (i n : ℕ) (A : List Float) (k r : ℕ) → run (factorEntry d i) n A ≡ stopped k r → n ≤ i → stopped k r ≡ factorRow d i A
-  unfolding factorRow
-  row-stays i n A k r e h = rw (run-stays (factorEntry d i) n i A k r e h)
+  pub pivot-stops : (i : ℕ) (A : List Float) (v : Float) → v ≡ remainder d A i i → (finite v && lt null v) ≡ false → stopped 15 i ≡ pivot d i A
+  unfolding pivot
+  pivot-stops i A v e f = rw (← e, f)
 
+  -- a row: its entries in order, then its pivot
   pub row-stops : (i j : ℕ) (A B : List Float) (k r : ℕ) → run (factorEntry d i) j A ≡ done B → factorEntry d i j B ≡ stopped k r → j < i → stopped k r ≡ factorRow d i A
   unfolding factorRow
   row-stops i j A B k r e f h = rw (run-stops (factorEntry d i) j i A B k r e f h)
@@ -47,19 +46,6 @@ module _ (d : ℕ) where
   pub row-ends : (i : ℕ) (A B : List Float) → run (factorEntry d i) i A ≡ done B → pivot d i B ≡ factorRow d i A
   unfolding factorRow
   row-ends i A B e = rw e
-
-  -- the matrix: its rows in order, two at a time, and a last one where their number is odd
-  pub factor-stops : (m : ℕ) (A B : List Float) (k r : ℕ) → run (factorRow d) m A ≡ done B → then (factorRow d m B) (factorRow d (m + 1)) ≡ stopped k r → m + 1 < d → stopped k r ≡ factor d A
-  unfolding factor
-  factor-stops m A B k r e f h = sym (run-stays (factorRow d) (m + 2) d A k r (run-two (factorRow d) m A B e ∙ f) (omega arith))
-
-  pub factor-ends : (m : ℕ) (A B : List Float) → run (factorRow d) m A ≡ done B → d ≡ m → done B ≡ factor d A
-  unfolding factor
-  factor-ends m A B e f = sym (ap (λ (n : ℕ). run (factorRow d) n A) f ∙ e)
-
-  pub factor-last : (m : ℕ) (A B : List Float) → run (factorRow d) m A ≡ done B → d ≡ suc m → factorRow d m B ≡ factor d A
-  unfolding factor
-  factor-last m A B e f = sym (ap (λ (n : ℕ). run (factorRow d) n A) f ∙ run-more (factorRow d) m A B e)
 
 -- what a step's answer says of the run
 pub ended-done : {A : Type 0} (s : Solve) (x : A) (r : Result A) → ended s x ≡ r → s ≡ Done → r ≡ done x

@@ -1,8 +1,8 @@
 pub mod Places
 pub mod Runs
-pub mod Crossing
-pub mod Columns
 pub mod Factored
-pub mod Blocks
-pub mod Pairs
+pub mod Lower
+pub mod Finished
+pub mod Updates
+pub mod Panels
 pub mod Substitution

@@ -6,14 +6,16 @@ use field::put3;
 use sqrt::sqrt;
 ghost use mathlib.Core.Path.{_≡_};
 ghost use mathlib.Core.List.{List};
-ghost use mathlib.Core.Bool.{cond, _&&_};
-ghost use Prim.Native.Nat.{_+_, _*_, _<_, _≤_};
-ghost use lib.ListN.{length, set, take};
-ghost use lib.Ieee.{Float, binary64, sub, mul, div};
+ghost use mathlib.Core.Bool.{true, _&&_};
+ghost use Prim.Native.Nat.{ℕ, _+_, _*_, _<_, _≤_, min};
+ghost use lib.ListN.{length, getD, set, take};
+ghost use lib.Ieee.{Float, nan, binary64, sub, mul, div, lt};
 ghost use lib.Ieee.Scale.{finite};
+ghost use Rattle.field.specs.Vec.{null};
+ghost use Rattle.sqrt.specs.Root.{root};
 ghost use Rattle.field.specs.Buffer.{load, store, vector};
 ghost use Rattle.field.specs.Count.{upto};
-ghost use Rattle.cholesky.specs.Cholesky.{done, then, run, ended, entry as entryOf, innerStep, remainder as remainderOf, factorEntry, pivot as pivotOf, factorRow, factor as factorOf, forwardVector, forward as forwardOf, backVector, backRow, back as backOf, finite3 as finiteVector, Substituted};
+ghost use Rattle.cholesky.specs.Cholesky.{stopped, ended, entry as entryOf, innerStep, factorEntry, pivot as pivotOf, factor as factorOf, forwardVector, forward as forwardOf, backVector, backRow, back as backOf, finite3 as finiteVector, Substituted};
 
 // How a factor or a substitution ends: done, or stopped by document 01's refusal `number` at the row `row`.
 pub enum Solve {
@@ -29,12 +31,6 @@ struct Four {
     fourth: f64,
 }
 
-// The same columns of two neighbouring rows.
-struct Rows {
-    upper: Four,
-    lower: Four,
-}
-
 // a_ij, or l_ij once that has its place.
 fn entry(a: &[f64], d: usize, i: usize, j: usize) -> f64
     requires { ⌜ (length (now a) ≡ d * d) × (i < d) × (j < d) ⌝ }
@@ -43,13 +39,13 @@ fn entry(a: &[f64], d: usize, i: usize, j: usize) -> f64
     a[i * d + j]
 }
 
-// a_ij - l_i0 l_j0 - .. - l_i,j-1 l_j,j-1.
-fn remainder(a: &[f64], d: usize, i: usize, j: usize) -> f64
-    requires { ⌜ (length (now a) ≡ d * d) × (j ≤ i) × (i < d) ⌝ }
-    ensures { λ r. ⌜ r ≡ remainderOf d (now (a .entry)) i j ⌝ }
+// a_ij - l_i0 l_j0 - .. - l_i,j-1 l_j,j-1, where the products before `from` are taken off already: u is a_ij.
+fn remainder(a: &[f64], d: usize, i: usize, j: usize, from: usize) -> f64
+    requires { ⌜ (length (now a) ≡ d * d) × (from ≤ j) × (j ≤ i) × (i < d) ⌝ }
+    ensures { λ r. ⌜ ((u : Float) → entryOf d (now (a .entry)) i j ≡ upto (innerStep d (now (a .entry)) i j) from u → r ≡ upto (innerStep d (now (a .entry)) i j) j u) ⌝ }
 {
     let mut v = entry(a, d, i, j);
-    let mut k = 0usize;
+    let mut k = from;
     while k < j {
         v = v - entry(a, d, i, k) * entry(a, d, j, k);
         k += 1;
@@ -58,11 +54,11 @@ fn remainder(a: &[f64], d: usize, i: usize, j: usize) -> f64
 }
 
 // l_ij, the remainder over l_jj.
-fn factor_entry(a: &mut [f64], d: usize, i: usize, j: usize) -> Solve
-    requires { ⌜ (length (now a) ≡ d * d) × (j < i) × (i < d) ⌝ }
-    ensures { λ r. ⌜ ended r (now (a .exit)) ≡ factorEntry d i j (now (a .entry)) ⌝ }
+fn factor_entry(a: &mut [f64], d: usize, i: usize, j: usize, from: usize) -> Solve
+    requires { ⌜ (length (now a) ≡ d * d) × (from ≤ j) × (j < i) × (i < d) ⌝ }
+    ensures { λ r. ⌜ ((u : Float) → entryOf d (now (a .entry)) i j ≡ upto (innerStep d (now (a .entry)) i j) from u → ended r (now (a .exit)) ≡ factorEntry d i j (set (now (a .entry)) (i * d + j) u)) ⌝ }
 {
-    let x = remainder(a, d, i, j) / entry(a, d, j, j);
+    let x = remainder(a, d, i, j, from) / entry(a, d, j, j);
     if is_finite(x) {
         a[i * d + j] = x;
         return Solve::Done;
@@ -71,11 +67,11 @@ fn factor_entry(a: &mut [f64], d: usize, i: usize, j: usize) -> Solve
 }
 
 // l_ii, the root of the remainder.
-fn pivot(a: &mut [f64], d: usize, i: usize) -> Solve
-    requires { ⌜ (length (now a) ≡ d * d) × (i < d) ⌝ }
-    ensures { λ r. ⌜ ended r (now (a .exit)) ≡ pivotOf d i (now (a .entry)) ⌝ }
+fn pivot(a: &mut [f64], d: usize, i: usize, from: usize) -> Solve
+    requires { ⌜ (length (now a) ≡ d * d) × (from ≤ i) × (i < d) ⌝ }
+    ensures { λ r. ⌜ ((u : Float) → entryOf d (now (a .entry)) i i ≡ upto (innerStep d (now (a .entry)) i i) from u → ended r (now (a .exit)) ≡ pivotOf d i (set (now (a .entry)) (i * d + i) u)) ⌝ }
 {
-    let v = remainder(a, d, i, i);
+    let v = remainder(a, d, i, i, from);
     if is_finite(v) && 0.0 < v {
         let root = sqrt(v);
         a[i * d + i] = root;
@@ -84,20 +80,36 @@ fn pivot(a: &mut [f64], d: usize, i: usize) -> Solve
     Solve::Stopped { number: 15, row: i }
 }
 
-// A row from column `from` on, where its entries before are made: s is the matrix before them.
+// A row from column `from` on, where the rows before it are made, and its own entries before `from`. Here and in what follows s is the matrix at entry, and l has what the factor's cells are when no test stops it.
 fn finish_row(a: &mut [f64], d: usize, i: usize, from: usize) -> Solve
     requires { ⌜ (length (now a) ≡ d * d) × (from ≤ i) × (i < d) ⌝ }
-    ensures { λ r. ⌜ ((s : List Float) → run (factorEntry d i) from s ≡ done (now (a .entry)) → ended r (now (a .exit)) ≡ factorRow d i s) ⌝ }
+    ensures { λ r. ⌜ ((s l : List Float) → length s ≡ d * d → ((m c : ℕ) → c < m → m < d → entryOf d l m c ≡ div binary64 (upto (innerStep d l m c) c (entryOf d s m c)) (entryOf d l c c)) × ((m : ℕ) → m < d → entryOf d l m m ≡ root binary64 (upto (innerStep d l m m) m (entryOf d s m m))) → ((m c : ℕ) → m < i → c < m → c < i → finite (entryOf d l m c) ≡ true) × ((m : ℕ) → m < i → m < i → (finite (upto (innerStep d l m m) m (entryOf d s m m)) && lt null (upto (innerStep d l m m) m (entryOf d s m m))) ≡ true) → ((c : ℕ) → c < from → finite (entryOf d l i c) ≡ true) → ((m c : ℕ) → m < i → c ≤ m → entryOf d (now (a .entry)) m c ≡ entryOf d l m c) → ((c : ℕ) → c < from → entryOf d (now (a .entry)) i c ≡ entryOf d l i c) → ((c : ℕ) → from ≤ c → c ≤ i → entryOf d (now (a .entry)) i c ≡ upto (innerStep d l i c) from (entryOf d s i c)) → (r ≡ Solve.Done → ((c : ℕ) → c ≤ i → entryOf d (now (a .exit)) i c ≡ entryOf d l i c) × ((c : ℕ) → c < i → finite (entryOf d l i c) ≡ true) × ((finite (upto (innerStep d l i i) i (entryOf d s i i)) && lt null (upto (innerStep d l i i) i (entryOf d s i i))) ≡ true) × ((m c : ℕ) → ((m ≡ i) × (c ≤ i) → ⊥) → c < d → entryOf d (now (a .exit)) m c ≡ entryOf d (now (a .entry)) m c)) × ((n q : ℕ) → r ≡ Solve.Stopped n q → stopped n q ≡ factorOf d s)) ⌝ }
 {
     let mut j = from;
     while j < i {
-        let step = factor_entry(a, d, i, j);
+        let step = factor_entry(a, d, i, j, from);
         let Solve::Done = step else {
             return step;
         };
         j += 1;
     }
-    pivot(a, d, i)
+    pivot(a, d, i, from)
+}
+
+// The rows `from` to `to` - 1, where all entries before column `from` are made.
+fn finish_rows(a: &mut [f64], d: usize, from: usize, to: usize) -> Solve
+    requires { ⌜ (length (now a) ≡ d * d) × (from ≤ to) × (to ≤ d) ⌝ }
+    ensures { λ r. ⌜ ((s l : List Float) → length s ≡ d * d → ((m c : ℕ) → c < m → m < d → entryOf d l m c ≡ div binary64 (upto (innerStep d l m c) c (entryOf d s m c)) (entryOf d l c c)) × ((m : ℕ) → m < d → entryOf d l m m ≡ root binary64 (upto (innerStep d l m m) m (entryOf d s m m))) → ((m c : ℕ) → m < to → c < m → c < from → finite (entryOf d l m c) ≡ true) × ((m : ℕ) → m < to → m < from → (finite (upto (innerStep d l m m) m (entryOf d s m m)) && lt null (upto (innerStep d l m m) m (entryOf d s m m))) ≡ true) → ((m c : ℕ) → m < to → c ≤ m → c < from → entryOf d (now (a .entry)) m c ≡ entryOf d l m c) × ((m c : ℕ) → m < to → c ≤ m → from ≤ c → entryOf d (now (a .entry)) m c ≡ upto (innerStep d l m c) from (entryOf d s m c)) → (r ≡ Solve.Done → ((m c : ℕ) → m < to → c ≤ m → entryOf d (now (a .exit)) m c ≡ entryOf d l m c) × ((m c : ℕ) → m < to → c < m → c < to → finite (entryOf d l m c) ≡ true) × ((m : ℕ) → m < to → m < to → (finite (upto (innerStep d l m m) m (entryOf d s m m)) && lt null (upto (innerStep d l m m) m (entryOf d s m m))) ≡ true) × ((m c : ℕ) → ((m < to) × (c ≤ m) → ⊥) → c < d → entryOf d (now (a .exit)) m c ≡ entryOf d (now (a .entry)) m c)) × ((n q : ℕ) → r ≡ Solve.Stopped n q → stopped n q ≡ factorOf d s)) ⌝ }
+{
+    let mut i = from;
+    while i < to {
+        let step = finish_row(a, d, i, from);
+        let Solve::Done = step else {
+            return step;
+        };
+        i += 1;
+    }
+    Solve::Done
 }
 
 // a_ij to a_i,j+3.
@@ -126,40 +138,6 @@ fn put_four(a: &mut [f64], d: usize, i: usize, j: usize, v: Four)
     a[p + 1] = v.second;
     a[p + 2] = v.third;
     a[p + 3] = v.fourth;
-}
-
-// The product at k, taken off the remainders of the columns j to j + 3.
-fn take_four(a: &[f64], d: usize, i: usize, j: usize, k: usize, v: Four) -> Four
-    requires { ⌜ (length (now a) ≡ d * d) × (k < j) × (j + 3 < i) × (i < d) ⌝ }
-    ensures { λ r. ⌜ (r .first ≡ innerStep d (now (a .entry)) i j k (v .first)) × (r .second ≡ innerStep d (now (a .entry)) i (j + 1) k (v .second)) × (r .third ≡ innerStep d (now (a .entry)) i (j + 2) k (v .third)) × (r .fourth ≡ innerStep d (now (a .entry)) i (j + 3) k (v .fourth)) ⌝ }
-{
-    let x = entry(a, d, i, k);
-    let first = v.first - x * entry(a, d, j, k);
-    let second = v.second - x * entry(a, d, j + 1, k);
-    let third = v.third - x * entry(a, d, j + 2, k);
-    let fourth = v.fourth - x * entry(a, d, j + 3, k);
-    Four {
-        first,
-        second,
-        third,
-        fourth,
-    }
-}
-
-// What the first j products leave of the remainders of the columns j to j + 3, in rows i and i + 1. Their subtractions go side by side: in one remainder alone each waits for the last.
-fn starts(a: &[f64], d: usize, i: usize, j: usize) -> Rows
-    requires { ⌜ (length (now a) ≡ d * d) × (j + 3 < i) × (i + 1 < d) ⌝ }
-    ensures { λ r. ⌜ (r .upper .first ≡ upto (innerStep d (now (a .entry)) i j) j (entryOf d (now (a .entry)) i j)) × (r .upper .second ≡ upto (innerStep d (now (a .entry)) i (j + 1)) j (entryOf d (now (a .entry)) i (j + 1))) × (r .upper .third ≡ upto (innerStep d (now (a .entry)) i (j + 2)) j (entryOf d (now (a .entry)) i (j + 2))) × (r .upper .fourth ≡ upto (innerStep d (now (a .entry)) i (j + 3)) j (entryOf d (now (a .entry)) i (j + 3))) × (r .lower .first ≡ upto (innerStep d (now (a .entry)) (i + 1) j) j (entryOf d (now (a .entry)) (i + 1) j)) × (r .lower .second ≡ upto (innerStep d (now (a .entry)) (i + 1) (j + 1)) j (entryOf d (now (a .entry)) (i + 1) (j + 1))) × (r .lower .third ≡ upto (innerStep d (now (a .entry)) (i + 1) (j + 2)) j (entryOf d (now (a .entry)) (i + 1) (j + 2))) × (r .lower .fourth ≡ upto (innerStep d (now (a .entry)) (i + 1) (j + 3)) j (entryOf d (now (a .entry)) (i + 1) (j + 3))) ⌝ }
-{
-    let mut upper = get_four(a, d, i, j);
-    let mut lower = get_four(a, d, i + 1, j);
-    let mut k = 0usize;
-    while k < j {
-        upper = take_four(a, d, i, j, k, upper);
-        lower = take_four(a, d, i + 1, j, k, lower);
-        k += 1;
-    }
-    Rows { upper, lower }
 }
 
 // The entries in the columns j to j + 3 of a later row, from what the first j products leave of their remainders.
@@ -193,66 +171,147 @@ fn finite4(v: Four) -> bool
     is_finite(v.first) && (is_finite(v.second) && (is_finite(v.third) && is_finite(v.fourth)))
 }
 
-// The entries in the columns j to j + 3 of rows i and i + 1, or nothing where one of them is not finite.
-fn factor_block(a: &mut [f64], d: usize, i: usize, j: usize) -> bool
-    requires { ⌜ (length (now a) ≡ d * d) × (j + 3 < i) × (i + 1 < d) ⌝ }
-    ensures { λ r. ⌜ done (now (a .exit)) ≡ cond r (then (then (then (then (then (then (then (factorEntry d (i + 1) j (now (a .entry))) (factorEntry d (i + 1) (j + 1))) (factorEntry d (i + 1) (j + 2))) (factorEntry d (i + 1) (j + 3))) (factorEntry d i j)) (factorEntry d i (j + 1))) (factorEntry d i (j + 2))) (factorEntry d i (j + 3))) (done (now (a .entry))) ⌝ }
+// The columns j to j + 3 of the rows below their pivots, down to the first row with an entry that is not finite: that row, or `rows`. It is refused unless a row above it is.
+fn panel(a: &mut [f64], d: usize, j: usize, rows: usize) -> usize
+    requires { ⌜ (length (now a) ≡ d * d) × (j + 4 ≤ rows) × (rows ≤ d) ⌝ }
+    ensures { λ r. ⌜ (j + 4 ≤ r) × (r ≤ rows) × ((s l : List Float) → length s ≡ d * d → ((m c : ℕ) → c < m → m < d → entryOf d l m c ≡ div binary64 (upto (innerStep d l m c) c (entryOf d s m c)) (entryOf d l c c)) × ((m : ℕ) → m < d → entryOf d l m m ≡ root binary64 (upto (innerStep d l m m) m (entryOf d s m m))) → ((m c : ℕ) → m < rows → c < m → c < j → finite (entryOf d l m c) ≡ true) × ((m : ℕ) → m < rows → m < j → (finite (upto (innerStep d l m m) m (entryOf d s m m)) && lt null (upto (innerStep d l m m) m (entryOf d s m m))) ≡ true) → ((m c : ℕ) → m < j + 4 → c ≤ m → entryOf d (now (a .entry)) m c ≡ entryOf d l m c) → ((m c : ℕ) → j + 4 ≤ m → m < rows → j ≤ c → c < j + 4 → entryOf d (now (a .entry)) m c ≡ upto (innerStep d l m c) j (entryOf d s m c)) → ((m c : ℕ) → j + 4 ≤ m → m < r → j ≤ c → c < j + 4 → (entryOf d (now (a .exit)) m c ≡ entryOf d l m c) × (finite (entryOf d l m c) ≡ true)) × (r < rows → ((m c : ℕ) → m < r → c < m → c < r → finite (entryOf d l m c) ≡ true) × ((m : ℕ) → m < r → m < r → (finite (upto (innerStep d l m m) m (entryOf d s m m)) && lt null (upto (innerStep d l m m) m (entryOf d s m m))) ≡ true) → stopped 16 r ≡ factorOf d s)) × ((m c : ℕ) → ((j + 4 ≤ m) × (m < r) × (j ≤ c) × (c < j + 4) → ⊥) → c < d → entryOf d (now (a .exit)) m c ≡ entryOf d (now (a .entry)) m c) ⌝ }
 {
-    let v = starts(a, d, i, j);
-    let upper = solve_four(a, d, j, v.upper);
-    let lower = solve_four(a, d, j, v.lower);
-    if finite4(upper) && finite4(lower) {
-        put_four(a, d, i + 1, j, lower);
-        put_four(a, d, i, j, upper);
-        return true;
+    let mut i = j + 4;
+    while i < rows {
+        let v = get_four(a, d, i, j);
+        let x = solve_four(a, d, j, v);
+        if !finite4(x) {
+            return i;
+        }
+        put_four(a, d, i, j, x);
+        i += 1;
     }
-    false
+    rows
 }
 
-// Rows i and i + 1, four columns at a time, as far as their entries are finite: the number of columns made.
-fn factor_blocks(a: &mut [f64], d: usize, i: usize) -> usize
-    requires { ⌜ (length (now a) ≡ d * d) × (i + 1 < d) ⌝ }
-    ensures { λ r. ⌜ (r ≤ i) × (then (run (factorEntry d (i + 1)) r (now (a .entry))) (run (factorEntry d i) r) ≡ done (now (a .exit))) ⌝ }
+// A row's four entries, at place t of each column.
+fn pack_row(p: &mut [f64], t: usize, x: Four)
+    requires { ⌜ (length (now p) ≡ 1024) × (t < 256) ⌝ }
+    ensures { λ r. ⌜ now (p .exit) ≡ set (set (set (set (now (p .entry)) t (x .first)) (256 + t) (x .second)) (512 + t) (x .third)) (768 + t) (x .fourth) ⌝ }
 {
-    let n = i / 4;
+    p[t] = x.first;
+    p[256 + t] = x.second;
+    p[512 + t] = x.third;
+    p[768 + t] = x.fourth;
+}
+
+// The columns j to j + 3 of n rows, one column after the other in p, so that an update of a row runs along p.
+fn pack(a: &[f64], p: &mut [f64], d: usize, j: usize, from: usize, n: usize)
+    requires { ⌜ (length (now a) ≡ d * d) × (length (now p) ≡ 1024) × (j + 3 < d) × (from + n ≤ d) × (n ≤ 256) ⌝ }
+    ensures { λ r. ⌜ ((t : ℕ) → t < n → (getD (now (p .exit)) t nan ≡ entryOf d (now (a .entry)) (from + t) j) × (getD (now (p .exit)) (256 + t) nan ≡ entryOf d (now (a .entry)) (from + t) (j + 1)) × (getD (now (p .exit)) (512 + t) nan ≡ entryOf d (now (a .entry)) (from + t) (j + 2)) × (getD (now (p .exit)) (768 + t) nan ≡ entryOf d (now (a .entry)) (from + t) (j + 3))) ⌝ }
+{
     let mut t = 0usize;
     while t < n {
-        if !factor_block(a, d, i, 4 * t) {
-            return 4 * t;
-        }
+        let x = get_four(a, d, from + t, j);
+        pack_row(p, t, x);
         t += 1;
     }
-    4 * t
 }
 
-// Rows i and i + 1. What stops a row is left to finish_row to meet, so that row i comes first.
-fn factor_rows(a: &mut [f64], d: usize, i: usize) -> Solve
-    requires { ⌜ (length (now a) ≡ d * d) × (i + 1 < d) ⌝ }
-    ensures { λ r. ⌜ ended r (now (a .exit)) ≡ then (factorRow d i (now (a .entry))) (factorRow d (i + 1)) ⌝ }
+// Four products taken off v: x has the row's entries, p the column's.
+fn take_four(v: f64, x: Four, p: &[f64], t: usize) -> f64
+    requires { ⌜ (length (now p) ≡ 1024) × (t < 256) ⌝ }
+    ensures { λ r. ⌜ r ≡ sub binary64 (sub binary64 (sub binary64 (sub binary64 v (mul binary64 (x .first) (getD (now (p .entry)) t nan))) (mul binary64 (x .second) (getD (now (p .entry)) (256 + t) nan))) (mul binary64 (x .third) (getD (now (p .entry)) (512 + t) nan))) (mul binary64 (x .fourth) (getD (now (p .entry)) (768 + t) nan)) ⌝ }
 {
-    let n = factor_blocks(a, d, i);
-    let upper = finish_row(a, d, i, n);
-    let Solve::Done = upper else {
-        return upper;
-    };
-    finish_row(a, d, i + 1, n)
+    v - x.first * p[t] - x.second * p[256 + t] - x.third * p[512 + t] - x.fourth * p[768 + t]
 }
 
+// Four products taken off each of n entries of row i: x is the row's, p the packed columns'.
+fn update_row(a: &mut [f64], p: &[f64], d: usize, i: usize, from: usize, n: usize, x: Four)
+    requires { ⌜ (length (now a) ≡ d * d) × (length (now p) ≡ 1024) × (i < d) × (from + n ≤ d) × (n ≤ 256) ⌝ }
+    ensures { λ r. ⌜ ((t : ℕ) → t < n → entryOf d (now (a .exit)) i (from + t) ≡ sub binary64 (sub binary64 (sub binary64 (sub binary64 (entryOf d (now (a .entry)) i (from + t)) (mul binary64 (x .first) (getD (now (p .entry)) t nan))) (mul binary64 (x .second) (getD (now (p .entry)) (256 + t) nan))) (mul binary64 (x .third) (getD (now (p .entry)) (512 + t) nan))) (mul binary64 (x .fourth) (getD (now (p .entry)) (768 + t) nan))) × ((m c : ℕ) → ((m ≡ i) × (from ≤ c) × (c < from + n) → ⊥) → c < d → entryOf d (now (a .exit)) m c ≡ entryOf d (now (a .entry)) m c) ⌝ }
+{
+    let mut t = 0usize;
+    while t < n {
+        a[i * d + (from + t)] = take_four(a[i * d + (from + t)], x, p, t);
+        t += 1;
+    }
+}
+
+fn lesser(x: usize, y: usize) -> usize
+    ensures { λ r. ⌜ r ≡ min x y ⌝ }
+{
+    if x < y {
+        return x;
+    }
+    y
+}
+
+// The same in the lower triangle's rows from `from` on.
+fn update_rows(a: &mut [f64], p: &[f64], d: usize, j: usize, from: usize, n: usize, rows: usize)
+    requires { ⌜ (length (now a) ≡ d * d) × (length (now p) ≡ 1024) × (j + 4 ≤ from) × (from + n ≤ rows) × (rows ≤ d) × (n ≤ 256) ⌝ }
+    ensures { λ r. ⌜ ((m t : ℕ) → t < n → from + t ≤ m → m < rows → entryOf d (now (a .exit)) m (from + t) ≡ sub binary64 (sub binary64 (sub binary64 (sub binary64 (entryOf d (now (a .entry)) m (from + t)) (mul binary64 (entryOf d (now (a .entry)) m j) (getD (now (p .entry)) t nan))) (mul binary64 (entryOf d (now (a .entry)) m (j + 1)) (getD (now (p .entry)) (256 + t) nan))) (mul binary64 (entryOf d (now (a .entry)) m (j + 2)) (getD (now (p .entry)) (512 + t) nan))) (mul binary64 (entryOf d (now (a .entry)) m (j + 3)) (getD (now (p .entry)) (768 + t) nan))) × ((m c : ℕ) → ((from ≤ c) × (c < from + n) × (c ≤ m) × (m < rows) → ⊥) → c < d → entryOf d (now (a .exit)) m c ≡ entryOf d (now (a .entry)) m c) ⌝ }
+{
+    let mut i = from;
+    while i < rows {
+        let x = get_four(a, d, i, j);
+        let w = lesser(n, i + 1 - from);
+        update_row(a, p, d, i, from, w, x);
+        i += 1;
+    }
+}
+
+// The four products taken off the columns `from` to `from` + n - 1.
+fn update_columns(
+    a: &mut [f64],
+    p: &mut [f64],
+    d: usize,
+    j: usize,
+    from: usize,
+    n: usize,
+    rows: usize,
+)
+    requires { ⌜ (length (now a) ≡ d * d) × (length (now p) ≡ 1024) × (j + 4 ≤ from) × (from + n ≤ rows) × (rows ≤ d) × (n ≤ 256) ⌝ }
+    ensures { λ r. ⌜ ((m c : ℕ) → from ≤ c → c < from + n → c ≤ m → m < rows → entryOf d (now (a .exit)) m c ≡ innerStep d (now (a .entry)) m c (j + 3) (innerStep d (now (a .entry)) m c (j + 2) (innerStep d (now (a .entry)) m c (j + 1) (innerStep d (now (a .entry)) m c j (entryOf d (now (a .entry)) m c))))) × ((m c : ℕ) → ((from ≤ c) × (c < from + n) × (c ≤ m) × (m < rows) → ⊥) → c < d → entryOf d (now (a .exit)) m c ≡ entryOf d (now (a .entry)) m c) ⌝ }
+{
+    pack(a, p, d, j, from, n);
+    update_rows(a, p, d, j, from, n, rows);
+}
+
+// The products of the columns j to j + 3, taken off what stands to the right of them, as many columns at a time as p holds.
+fn update(a: &mut [f64], p: &mut [f64], d: usize, j: usize, rows: usize)
+    requires { ⌜ (length (now a) ≡ d * d) × (length (now p) ≡ 1024) × (j + 4 ≤ rows) × (rows ≤ d) ⌝ }
+    ensures { λ r. ⌜ ((m c : ℕ) → j + 4 ≤ c → c ≤ m → m < rows → entryOf d (now (a .exit)) m c ≡ innerStep d (now (a .entry)) m c (j + 3) (innerStep d (now (a .entry)) m c (j + 2) (innerStep d (now (a .entry)) m c (j + 1) (innerStep d (now (a .entry)) m c j (entryOf d (now (a .entry)) m c))))) × ((m c : ℕ) → ((j + 4 ≤ c) × (c ≤ m) × (m < rows) → ⊥) → c < d → entryOf d (now (a .exit)) m c ≡ entryOf d (now (a .entry)) m c) ⌝ }
+{
+    let mut from = j + 4;
+    while from < rows {
+        let n = lesser(256, rows - from);
+        update_columns(a, p, d, j, from, n, rows);
+        from = from + n;
+    }
+}
+
+// Four columns at a time: their pivots' rows, the rows below, and their products taken off the rest. The rows from `rows` on are left, where that row has an entry that is not finite: what stops the factor above it comes first.
 pub fn factor(a: &mut [f64], d: usize) -> Solve
     requires { ⌜ length (now a) ≡ d * d ⌝ }
     ensures { λ r. ⌜ ended r (now (a .exit)) ≡ factorOf d (now (a .entry)) ⌝ }
 {
-    let n = d / 2;
-    let mut t = 0usize;
-    while t < n {
-        let step = factor_rows(a, d, 2 * t);
-        let Solve::Done = step else {
-            return step;
+    let mut p = [0.0; 1024];
+    let mut rows = d;
+    let mut j = 0usize;
+    while 4 <= rows - j {
+        let corner = finish_rows(a, d, j, j + 4);
+        let Solve::Done = corner else {
+            return corner;
         };
-        t += 1;
+        rows = panel(a, d, j, rows);
+        update(a, &mut p, d, j, rows);
+        j += 4;
     }
-    if 2 * n < d {
-        return finish_row(a, d, 2 * n, 0);
+    let rest = finish_rows(a, d, j, rows);
+    let Solve::Done = rest else {
+        return rest;
+    };
+    if rows < d {
+        return Solve::Stopped {
+            number: 16,
+            row: rows,
+        };
     }
     Solve::Done
 }

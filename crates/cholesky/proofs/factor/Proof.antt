@@ -1,28 +1,32 @@
-use Rattle.cholesky.proofs.Factored.{factor-stops, factor-last, factor-ends, ended-done, ended-stopped}
-use Rattle.cholesky.proofs.Runs.{run-none, run-two}
-use Rattle.cholesky.specs.Cholesky.{done, run, factorRow}
-use borrow.Author.Needs.{needs}
+use mathlib.Core.Path.{_≡_, refl}
+use Prim.Native.Nat.{_≤_, _-_}
+use mathlib.Core.List.{List}
 use lib.ListN.{length}
-use Prim.Native.Nat.{_+_, _*_, _/_, _≤_, _-_}
-use mathlib.Core.Path.{_≡_, refl, _∙_}
+use lib.Ieee.{Float}
+use borrow.Author.Needs.{needs}
+use Rattle.cholesky.proofs.Lower.{Lawful, lawful}
+use Rattle.cholesky.proofs.Panels.{Stage, stage-starts, stage-goes, corner-stops, last-stops, last-refused, last-done}
 use native.Mathlib.Omega.{arith}
 use Rattle.cholesky.proofs.factor.Statement.{statement}
 use Rattle.cholesky.proofs.factor.Tie as tie
 
 abbrev Inv-loop : tie.InvT-loop
-Inv-loop a₀ d n t₀ a t = (t ≤ n) × (run (factorRow d) (2 * t) a₀ ≡ done a) × (length a ≡ length a₀)
+Inv-loop a₀ d p₀ rows₀ j₀ a p rows j = (j ≤ rows) × (rows ≤ d) × (length a ≡ length a₀) × (length p ≡ 1024) × ((l : List Float) → Lawful d a₀ l → Stage d a₀ l a rows j)
 
 abbrev μ-loop : tie.MeasureT-loop
-μ-loop a₀ d n t₀ a t = n - t
+μ-loop a₀ d p₀ rows₀ j₀ a p rows j = d - j
 
 loop-holds : tie.Need-loop-holds Inv-loop μ-loop
-loop-holds c = (omega arith, run-none _ _, refl)
+loop-holds c = let a = c .before .args in (omega arith, omega arith, refl, refl, λ l law. stage-starts (a .d) (a .a .now) l)
 
-mul-factor-rows : tie.Need-mul-factor-rows Inv-loop μ-loop
-mul-factor-rows c = omega arith
+sub-loop : tie.Need-sub-loop Inv-loop μ-loop
+sub-loop c = omega arith
 
-factor-rows-requires : tie.Need-factor-rows-requires Inv-loop μ-loop
-factor-rows-requires c κs = omega arith
+add-finish-rows : tie.Need-add-finish-rows Inv-loop μ-loop
+add-finish-rows c = omega arith
+
+finish-rows-requires : tie.Need-finish-rows-requires Inv-loop μ-loop
+finish-rows-requires c κs = omega arith
 
 enum-told : tie.Need-enum-told Inv-loop μ-loop
 enum-told c = search needs
@@ -35,45 +39,72 @@ same-length c = omega arith
 
 returns : tie.Need-returns Inv-loop μ-loop
 returns c =
-    let e = c .before .before .before .before .factor-rows .ensures in
-    let f = ended-stopped _ _ _ _ _ e (c .enum-told2 .given .1) in
-    e ∙ f ∙ factor-stops _ _ _ _ _ _ (c .before .before .before .before .before .before .before .loop .inv .1) f (omega arith)
+    let a = c .before .before .before .before .before .before .before .before .before .args in
+    let v = c .before .before .before .before .before .before .before .loop .inv in
+    let w = lawful (a .d) (a .a .now) (c .before .before .before .before .before .before .before .before .before .pre) in
+    corner-stops (a .d) (a .a .now) (w .0) (c .before .before .before .before .before .before .before .loop .a) (c .before .before .before .before .finish-rows .last .0) (c .before .before .before .before .before .before .before .loop .rows) (c .before .before .before .before .before .before .before .loop .j) (c .before .before .before .before .finish-rows .result) (c .before .before .before .before .before .before .before .before .before .pre) (w .1) (v .4 (w .0) (w .1)) (c .before .before .before .before .finish-rows .ensures (a .a .now) (w .0)) (omega arith) (omega arith) _ _ (c .enum-told2 .given .1)
 
-add-t : tie.Need-add-t Inv-loop μ-loop
-add-t c = omega arith
+panel-requires : tie.Need-panel-requires Inv-loop μ-loop
+panel-requires c κs = omega arith
+
+slice-aggregate-update : tie.Need-slice-aggregate-update Inv-loop μ-loop
+slice-aggregate-update c = omega arith
+
+update-requires : tie.Need-update-requires Inv-loop μ-loop
+update-requires c κs = omega arith
+
+add-j : tie.Need-add-j Inv-loop μ-loop
+add-j c = omega arith
 
 loop-less : tie.Need-loop-less Inv-loop μ-loop
 loop-less c = omega arith
 
 loop-again : tie.Need-loop-again Inv-loop μ-loop
 loop-again c =
-    let t = c .before .before .before .before .before .before .before .loop .t in
-    let e : 2 * (t + 1) ≡ 2 * t + 2 = omega arith in
-    (omega arith, rw e (run-two _ _ _ _ (c .before .before .before .before .before .before .before .loop .inv .1) ∙ ended-done _ _ _ (c .before .before .before .before .factor-rows .ensures) (c .enum-told .given .1)), omega arith)
+    let a = c .before .before .before .before .before .before .before .before .before .before .before .before .before .before .before .before .before .before .before .args in
+    let v = c .before .before .before .before .before .before .before .before .before .before .before .before .before .before .before .before .before .loop .inv in
+    let p = c .before .before .before .before .before .before .before .before .panel .ensures in
+    let u = c .before .before .before .update .ensures in
+    (omega arith, omega arith, omega arith, omega arith, λ l law. stage-goes (a .d) (a .a .now) l (c .before .before .before .before .before .before .before .before .before .before .before .before .before .before .before .before .before .loop .a) (c .before .before .before .before .before .before .before .before .before .before .before .before .before .before .finish-rows .last .0) (c .before .before .before .before .before .before .before .before .before .before .before .before .before .before .before .before .before .loop .rows) (c .before .before .before .before .before .before .before .before .before .before .before .before .before .before .before .before .before .loop .j) (c .before .before .before .before .before .before .before .before .before .before .before .before .before .before .finish-rows .result) (c .before .before .before .before .before .before .before .before .before .before .before .before .before .before .before .before .before .before .before .pre) law (v .4 l law) (c .before .before .before .before .before .before .before .before .before .before .before .before .before .before .finish-rows .ensures (a .a .now) l) (omega arith) (omega arith) (c .before .before .before .before .before .before .before .before .panel .last .0) (c .before .before .before .update .last .0) (c .before .before .before .before .before .before .before .before .panel .result) (c .before .before .before .before .before .before .before .before .before .before .enum-told .given .1) (p .2 (a .a .now) l) (p .3) (p .0) (p .1) (u .0) (u .1))
 
-mul-if1 : tie.Need-mul-if1 Inv-loop μ-loop
-mul-if1 c = omega arith
+finish-rows-requires-2 : tie.Need-finish-rows-requires-2 Inv-loop μ-loop
+finish-rows-requires-2 c κs = omega arith
 
-mul-finish-row : tie.Need-mul-finish-row Inv-loop μ-loop
-mul-finish-row c = omega arith
+enum-told-3 : tie.Need-enum-told-3 Inv-loop μ-loop
+enum-told-3 c = search needs
 
-finish-row-requires : tie.Need-finish-row-requires Inv-loop μ-loop
-finish-row-requires c κs = omega arith
+enum-told-4 : tie.Need-enum-told-4 Inv-loop μ-loop
+enum-told-4 c = search needs
 
 same-length-2 : tie.Need-same-length-2 Inv-loop μ-loop
 same-length-2 c = omega arith
 
 returns-2 : tie.Need-returns-2 Inv-loop μ-loop
 returns-2 c =
-    let n = c .before .before .before .before .before .before .before .before .args .d / 2 in
-    let e : c .before .before .before .before .before .before .loop .t ≡ n = omega arith in
-    c .before .before .finish-row .ensures _ (run-none _ _) ∙ factor-last _ (2 * n) _ _ (rw e at (c .before .before .before .before .before .before .loop .inv .1)) (omega arith)
+    let a = c .before .before .before .before .before .before .before .before .before .args in
+    let v = c .before .before .before .before .before .before .before .loop .inv in
+    let w = lawful (a .d) (a .a .now) (c .before .before .before .before .before .before .before .before .before .pre) in
+    last-stops (a .d) (a .a .now) (w .0) (c .before .before .before .before .before .before .before .loop .a) (c .before .before .before .before .finish-rows2 .last .0) (c .before .before .before .before .before .before .before .loop .rows) (c .before .before .before .before .before .before .before .loop .j) (c .before .before .before .before .finish-rows2 .result) (c .before .before .before .before .before .before .before .before .before .pre) (w .1) (v .4 (w .0) (w .1)) (c .before .before .before .before .finish-rows2 .ensures (a .a .now) (w .0)) (omega arith) _ _ (c .enum-told4 .given .1)
 
 same-length-3 : tie.Need-same-length-3 Inv-loop μ-loop
 same-length-3 c = omega arith
 
 returns-3 : tie.Need-returns-3 Inv-loop μ-loop
-returns-3 c = factor-ends _ _ _ _ (c .before .before .loop .inv .1) (omega arith)
+returns-3 c =
+    let a = c .before .before .before .before .before .before .before .before .before .before .args in
+    let v = c .before .before .before .before .before .before .before .before .loop .inv in
+    let w = lawful (a .d) (a .a .now) (c .before .before .before .before .before .before .before .before .before .before .pre) in
+    last-refused (a .d) (a .a .now) (w .0) (c .before .before .before .before .before .before .before .before .loop .a) (c .before .before .before .before .before .finish-rows2 .last .0) (c .before .before .before .before .before .before .before .before .loop .rows) (c .before .before .before .before .before .before .before .before .loop .j) (c .before .before .before .before .before .finish-rows2 .result) (c .before .before .before .before .before .before .before .before .before .before .pre) (w .1) (v .4 (w .0) (w .1)) (c .before .before .before .before .before .finish-rows2 .ensures (a .a .now) (w .0)) (omega arith) (c .before .enum-told3 .given .1) (omega arith)
+
+same-length-4 : tie.Need-same-length-4 Inv-loop μ-loop
+same-length-4 c = omega arith
+
+returns-4 : tie.Need-returns-4 Inv-loop μ-loop
+returns-4 c =
+    let a = c .before .before .before .before .before .before .before .before .before .before .args in
+    let v = c .before .before .before .before .before .before .before .before .loop .inv in
+    let w = lawful (a .d) (a .a .now) (c .before .before .before .before .before .before .before .before .before .before .pre) in
+    last-done (a .d) (a .a .now) (w .0) (c .before .before .before .before .before .before .before .before .loop .a) (c .before .before .before .before .before .finish-rows2 .last .0) (c .before .before .before .before .before .before .before .before .loop .rows) (c .before .before .before .before .before .before .before .before .loop .j) (c .before .before .before .before .before .finish-rows2 .result) (c .before .before .before .before .before .before .before .before .before .before .pre) (w .1) (v .4 (w .0) (w .1)) (c .before .before .before .before .before .finish-rows2 .ensures (a .a .now) (w .0)) (omega arith) (c .before .enum-told3 .given .1) (omega arith) (omega arith)
 
 pub factor-spec : {M : Type 1} → statement M
 factor-spec =
@@ -82,19 +113,25 @@ factor-spec =
     Inv-loop
     μ-loop
     loop-holds
-    mul-factor-rows
-    factor-rows-requires
+    sub-loop
+    add-finish-rows
+    finish-rows-requires
     enum-told
     enum-told-2
     same-length
     returns
-    add-t
+    panel-requires
+    slice-aggregate-update
+    update-requires
+    add-j
     loop-less
     loop-again
-    mul-if1
-    mul-finish-row
-    finish-row-requires
+    finish-rows-requires-2
+    enum-told-3
+    enum-told-4
     same-length-2
     returns-2
     same-length-3
-    returns-3)
+    returns-3
+    same-length-4
+    returns-4)

@@ -1,5 +1,5 @@
-use Rattle.cholesky.proofs.Factored.{entry-done, entry-stops}
 use Rattle.cholesky.proofs.Places.{place-below}
+use Rattle.cholesky.proofs.Finished.{restored-done, restored-stops}
 use native.Mathlib.Omega.{arith}
 use borrow.Author.Needs.{needs}
 use Rattle.cholesky.proofs.factor_entry.Statement.{statement}
@@ -30,13 +30,13 @@ same-length : tie.Need-same-length
 same-length c = search needs
 
 returns : tie.Need-returns
-returns c = entry-done _ _ _ _ _ _ _ (c .before .before .before .before .remainder .ensures) (c .before .before .entry .ensures) (c .before .is-finite .ensures) (c .if1 .taken)
+returns c = λ u e. restored-done (c .before .before .before .before .before .before .before .args .d) _ _ (c .before .before .before .before .before .before .before .args .a .now) u _ _ _ (c .before .before .before .before .remainder .ensures u e) (c .before .before .entry .ensures) (c .before .is-finite .ensures) (c .if1 .taken) (omega arith) (omega arith) (omega arith)
 
 same-length-2 : tie.Need-same-length-2
 same-length-2 c = search needs
 
 returns-2 : tie.Need-returns-2
-returns-2 c = entry-stops _ _ _ _ _ _ _ (c .before .before .before .before .remainder .ensures) (c .before .before .entry .ensures) (c .before .is-finite .ensures) (c .if1 .left)
+returns-2 c = λ u e. restored-stops (c .before .before .before .before .before .before .before .args .d) _ _ (c .before .before .before .before .before .before .before .args .a .now) u _ _ _ (c .before .before .before .before .remainder .ensures u e) (c .before .before .entry .ensures) (c .before .is-finite .ensures) (c .if1 .left) (omega arith) (omega arith) (omega arith)
 
 pub factor-entry-spec : {M : Type 1} → statement M
 factor-entry-spec =

@@ -1,25 +1,22 @@
-use Rattle.cholesky.proofs.Factored.{row-stops, row-ends, ended-done, ended-stopped}
-use Rattle.cholesky.proofs.Runs.{run-more}
-use Rattle.cholesky.specs.Cholesky.{done, run, factorEntry}
-use borrow.Author.Needs.{needs}
-use native.Mathlib.Numerals.{add-one}
-use lib.Ieee.{Float}
-use lib.ListN.{length}
-use mathlib.Core.List.{List}
+use mathlib.Core.Path.{_≡_, refl}
 use Prim.Native.Nat.{_≤_, _-_}
-use mathlib.Core.Path.{_≡_, refl, _∙_}
+use mathlib.Core.List.{List}
+use lib.ListN.{length}
+use lib.Ieee.{Float}
+use borrow.Author.Needs.{needs}
+use Rattle.cholesky.proofs.Finished.{RowGiven, RowMade, row-starts, row-goes, row-breaks, row-closes}
 use native.Mathlib.Omega.{arith}
 use Rattle.cholesky.proofs.finish_row.Statement.{statement}
 use Rattle.cholesky.proofs.finish_row.Tie as tie
 
 abbrev Inv-loop : tie.InvT-loop
-Inv-loop a₀ d i from j₀ a j = (j ≤ i) × ((s : List Float) → run (factorEntry d i) from s ≡ done a₀ → run (factorEntry d i) j s ≡ done a) × (length a ≡ length a₀)
+Inv-loop a₀ d i from j₀ a j = (from ≤ j) × (j ≤ i) × (length a ≡ length a₀) × ((s l : List Float) → RowGiven d s l a₀ i from (RowMade d s l a₀ a i from j))
 
 abbrev μ-loop : tie.MeasureT-loop
 μ-loop a₀ d i from j₀ a j = i - j
 
 loop-holds : tie.Need-loop-holds Inv-loop μ-loop
-loop-holds c = (omega arith, (λ s e. e), refl)
+loop-holds c = let a = c .before .args in (omega arith, omega arith, refl, λ s l. row-starts (a .d) s l (a .a .now) (a .i) (a .from) (omega arith))
 
 factor-entry-requires : tie.Need-factor-entry-requires Inv-loop μ-loop
 factor-entry-requires c κs = omega arith
@@ -35,9 +32,8 @@ same-length c = omega arith
 
 returns : tie.Need-returns Inv-loop μ-loop
 returns c =
-    let e = c .before .before .before .before .factor-entry .ensures in
-    let f = ended-stopped _ _ _ _ _ e (c .enum-told2 .given .1) in
-    λ s h. e ∙ f ∙ row-stops _ _ _ _ _ _ _ (c .before .before .before .before .before .before .before .loop .inv .1 s h) f (omega arith)
+    let a = c .before .before .before .before .before .before .before .before .before .args in
+    λ s l. row-breaks (a .d) s l (a .a .now) (c .before .before .before .before .before .before .before .loop .a) (c .before .before .before .before .factor-entry .last .0) (a .i) (a .from) (c .before .before .before .before .before .before .before .loop .j) (c .before .before .before .before .factor-entry .result) _ _ (c .before .before .before .before .before .before .before .loop .inv .3 s l) (c .before .before .before .before .factor-entry .ensures) (c .enum-told2 .given .1) (omega arith) (omega arith) (omega arith)
 
 add-j : tie.Need-add-j Inv-loop μ-loop
 add-j c = omega arith
@@ -47,7 +43,8 @@ loop-less c = omega arith
 
 loop-again : tie.Need-loop-again Inv-loop μ-loop
 loop-again c =
-    (omega arith, (λ s h. rw add-one (run-more _ _ _ _ (c .before .before .before .before .before .before .before .loop .inv .1 s h) ∙ ended-done _ _ _ (c .before .before .before .before .factor-entry .ensures) (c .enum-told .given .1))), omega arith)
+    let a = c .before .before .before .before .before .before .before .before .before .args in
+    (omega arith, omega arith, omega arith, λ s l. row-goes (a .d) s l (a .a .now) (c .before .before .before .before .before .before .before .loop .a) (c .before .before .before .before .factor-entry .last .0) (a .i) (a .from) (c .before .before .before .before .before .before .before .loop .j) (c .before .before .before .before .factor-entry .result) (c .before .before .before .before .before .before .before .loop .inv .3 s l) (c .before .before .before .before .factor-entry .ensures) (c .enum-told .given .1) (omega arith) (omega arith) (omega arith))
 
 pivot-requires : tie.Need-pivot-requires Inv-loop μ-loop
 pivot-requires c κs = omega arith
@@ -57,8 +54,9 @@ same-length-2 c = omega arith
 
 returns-2 : tie.Need-returns-2 Inv-loop μ-loop
 returns-2 c =
-    let e : c .before .before .before .before .before .loop .j ≡ c .before .before .before .before .before .before .before .args .i = omega arith in
-    λ s h. c .before .before .pivot .ensures ∙ row-ends _ _ _ _ (rw e at (c .before .before .before .before .before .loop .inv .1 s h))
+    let a = c .before .before .before .before .before .before .before .args in
+    let e : c .before .before .before .before .before .loop .j ≡ a .i = omega arith in
+    λ s l. row-closes (a .d) s l (a .a .now) (c .before .before .before .before .before .loop .a) (c .before .before .pivot .last .0) (a .i) (a .from) (c .before .before .pivot .result) (rw e at (c .before .before .before .before .before .loop .inv .3 s l)) (c .before .before .pivot .ensures) (omega arith) (omega arith)
 
 pub finish-row-spec : {M : Type 1} → statement M
 finish-row-spec =

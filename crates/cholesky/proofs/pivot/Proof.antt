@@ -1,6 +1,6 @@
-use Rattle.cholesky.proofs.Factored.{pivot-done, pivot-wild, pivot-low}
 use mathlib.Core.Logic.{⊎-elim}
 use Rattle.cholesky.proofs.Places.{place-below}
+use Rattle.cholesky.proofs.Finished.{restored-pivot, restored-low, restored-wild}
 use native.Mathlib.Omega.{arith}
 use borrow.Author.Needs.{needs}
 use Rattle.cholesky.proofs.pivot.Statement.{statement}
@@ -31,16 +31,18 @@ same-length : tie.Need-same-length
 same-length c = search needs
 
 returns : tie.Need-returns
-returns c = pivot-done _ _ _ _ _ _ (c .before .before .before .before .remainder .ensures) (c .before .before .before .is-finite .ensures) (c .before .before .if1 .taken) (c .before .if2 .taken) (c .sqrt .ensures)
+returns c = λ u e. restored-pivot (c .before .before .before .before .before .before .before .args .d) _ (c .before .before .before .before .before .before .before .args .a .now) u _ _ _ (c .before .before .before .before .remainder .ensures u e) (c .before .before .before .is-finite .ensures) (c .before .before .if1 .taken) (c .before .if2 .taken) (c .sqrt .ensures) (omega arith) (omega arith)
 
 same-length-2 : tie.Need-same-length-2
 same-length-2 c = search needs
 
 returns-2 : tie.Need-returns-2
 returns-2 c =
-    let v = c .before .before .remainder .ensures in
+    let a = c .before .before .before .before .before .args in
     let f = c .before .is-finite .ensures in
-    ⊎-elim (λ w. pivot-low _ _ _ _ _ v f (w .0 .taken) (w .1 .left)) (λ w. pivot-wild _ _ _ _ _ v f (w .left)) (c .if1 .came)
+    λ u e.
+    let v = c .before .before .remainder .ensures u e in
+    ⊎-elim (λ w. restored-low (a .d) _ (a .a .now) u _ _ v f (w .0 .taken) (w .1 .left) (omega arith) (omega arith)) (λ w. restored-wild (a .d) _ (a .a .now) u _ _ v f (w .left) (omega arith) (omega arith)) (c .if1 .came)
 
 pub pivot-spec : {M : Type 1} → statement M
 pivot-spec =
