@@ -159,7 +159,7 @@ fn table(name: &str, net: &Network, route: usize, limit: usize, runs: usize) {
     let whole_solve = sums + assembly + pick + solve + points;
 
     #[allow(unused_mut)]
-    let mut port: [Option<Duration>; 5] = [None; 5];
+    let mut port: [Option<Duration>; 6] = [None; 6];
     #[cfg(port)]
     {
         let same = |left: &[f64], right: &[f64]| left.iter().zip(right).all(|(l, r)| l.to_bits() == r.to_bits() || (l.is_nan() && r.is_nan()));
@@ -184,6 +184,10 @@ fn table(name: &str, net: &Network, route: usize, limit: usize, runs: usize) {
         let (time, number) = best(runs.max(3), || lent.solve(route, 257));
         port[4] = Some(time);
         assert!(number == 8, "{name}: a limit of 257 is not refused");
+        // the system is formed, then the route is refused, and the work buffer is cleared
+        let (time, number) = best(runs.max(3), || lent.solve(1, 0));
+        port[5] = Some(time);
+        assert!(number == 14, "{name}: a limit of 0 is not refused");
     }
     let _ = (&placed, limit);
     line(name, "sums and assembly", sums + assembly + pick, None, "");
@@ -193,8 +197,10 @@ fn table(name: &str, net: &Network, route: usize, limit: usize, runs: usize) {
     line(name, "dots", dots, port[1], "");
     line(name, "scales (the port's forms W again)", scales, port[2], "");
     line(name, "connectivity", connected, port[3], if whole { "connected" } else { "not connected" });
-    if let Some(tests) = port[4] {
-        println!("| {name} | tests 1 to 8 alone | - | {:.3} | - | in each call of the port; connectivity has fewer |", tests.as_secs_f64() * 1e3);
+    for (time, what) in [(port[4], "tests 1 to 8 alone (refused by 8)"), (port[5], "tests, sums and assembly, buffer cleared (refused by 14)")] {
+        if let Some(time) = time {
+            println!("| {name} | {what} | - | {:.3} | - | |", time.as_secs_f64() * 1e3);
+        }
     }
 }
 

@@ -9,13 +9,14 @@ use native.Mathlib.Numerals.{add-one}
 use native.Mathlib.Omega.{arith}
 use lib.ListN.{length, set, length-set}
 use lib.Seq.{getD-set-same, getD-set-other, ext-getD}
-use lib.Ieee.{Float, nan, binary64, sub, mul, div, lt}
+use lib.Ieee.{Float, nan, binary64, div, lt}
 use lib.Ieee.Scale.{finite}
 use Rattle.field.specs.Vec.{null}
 use Rattle.field.specs.Count.{upto}
 use Rattle.field.proofs.Counting.{upto-zero, upto-suc, upto-ext, upto-invariant}
 use Rattle.sqrt.specs.Root.{root}
 use Rattle.cholesky.specs.Cholesky.{done, stopped, run, entry, innerStep, remainder, factorEntry, factorRow, factor}
+use Rattle.cholesky.specs.Stages.{off, reduced, left, Made, Passes, Lawful, positive, Sound}
 use Rattle.cholesky.proofs.Places.{place-below, place-is, places-apart, below-or-not}
 use Rattle.cholesky.proofs.Runs.{run-none, run-more, run-stops}
 use Rattle.cholesky.proofs.Factored.{entry-done, entry-stops, pivot-done, pivot-stops, row-stops, row-ends}
@@ -34,28 +35,20 @@ module _ (d : ℕ) where
   entry-other A r m i c x h hm hc = getD-set-other A (r * d + m) (i * d + c) x nan (places-apart d i c r m h hc hm)
 
   -- a product more, taken off what the first k leave of u
-  pub product-more : (A : List Float) (i j k : ℕ) (u v x y : Float) → v ≡ upto (innerStep d A i j) k u → x ≡ entry d A i k → y ≡ entry d A j k → sub binary64 v (mul binary64 x y) ≡ upto (innerStep d A i j) (k + 1) u
+  pub product-more : (A : List Float) (i j k : ℕ) (u v x y : Float) → v ≡ reduced d A i j k u → x ≡ entry d A i k → y ≡ entry d A j k → off v x y ≡ reduced d A i j (k + 1) u
   product-more A i j k u v x y e f g = rw (e, f, g, add-one, upto-suc)
 
 module _ (d : ℕ) (s : List Float) where
-  -- what the first k products of l leave of the entry in row i and column c
-  abbrev pub left : List Float → ℕ → ℕ → ℕ → Float
-  left l i c k = upto (innerStep d l i c) k (entry d s i c)
-
-  pub left-none : (l : List Float) (i c : ℕ) → entry d s i c ≡ left l i c 0
+  pub left-none : (l : List Float) (i c : ℕ) → entry d s i c ≡ left d s l i c 0
   left-none l i c = sym (upto-zero _ _)
 
-  pub left-same : (l t : List Float) (i c k : ℕ) → ((o : ℕ) → o < k → entry d l i o ≡ entry d t i o) → ((o : ℕ) → o < k → entry d l c o ≡ entry d t c o) → left l i c k ≡ left t i c k
-  left-same l t i c k f g = upto-ext (innerStep d l i c) (innerStep d t i c) k (entry d s i c) (λ o v h. ap₂ (λ (x y : Float). sub binary64 v (mul binary64 x y)) (f o h) (g o h))
-
-  -- l is what the factor's cells are
-  abbrev pub Lawful : List Float → Type 0
-  Lawful l = ((m c : ℕ) → c < m → m < d → entry d l m c ≡ div binary64 (left l m c c) (entry d l c c)) × ((m : ℕ) → m < d → entry d l m m ≡ root binary64 (left l m m m))
+  pub left-same : (l t : List Float) (i c k : ℕ) → ((o : ℕ) → o < k → entry d l i o ≡ entry d t i o) → ((o : ℕ) → o < k → entry d l c o ≡ entry d t c o) → left d s l i c k ≡ left d s t i c k
+  left-same l t i c k f g = upto-ext (innerStep d l i c) (innerStep d t i c) k (entry d s i c) (λ o v h. ap₂ (off v) (f o h) (g o h))
 
   -- ---- such an l, column by column
 
   abbrev Upto : ℕ → List Float → Type 0
-  Upto n l = (length l ≡ d * d) × ((m c : ℕ) → c < n → c < m → m < d → entry d l m c ≡ div binary64 (left l m c c) (entry d l c c)) × ((m : ℕ) → m < n → m < d → entry d l m m ≡ root binary64 (left l m m m))
+  Upto n l = (length l ≡ d * d) × ((m c : ℕ) → c < n → c < m → m < d → entry d l m c ≡ div binary64 (left d s l m c c) (entry d l c c)) × ((m : ℕ) → m < n → m < d → entry d l m m ≡ root binary64 (left d s l m m m))
 
   -- column n of all rows
   abbrev column : ℕ → (ℕ → Float) → ℕ → List Float → List Float
@@ -72,10 +65,10 @@ module _ (d : ℕ) (s : List Float) where
 
   -- column n, where those before it are made: the pivot, and the quotients below it
   abbrev pivotOf : ℕ → List Float → Float
-  pivotOf n l = root binary64 (left l n n n)
+  pivotOf n l = root binary64 (left d s l n n n)
 
   abbrev quotients : ℕ → List Float → ℕ → Float
-  quotients n l i = div binary64 (left l i n n) (pivotOf n l)
+  quotients n l i = div binary64 (left d s l i n n) (pivotOf n l)
 
   abbrev filled : ℕ → List Float → List Float
   filled n l = upto (column n (quotients n l)) d l
@@ -88,7 +81,7 @@ module _ (d : ℕ) (s : List Float) where
       entry-other d (filled n l) n n i c (pivotOf n l) (λ q. omega arith) hn (omega arith)
       ∙ fill n (quotients n l) l hl hn .2 i c (λ q. omega arith) (omega arith)
 
-  next-left : (n : ℕ) (l : List Float) (i c k : ℕ) → length l ≡ d * d → n < d → k ≤ n → left l i c k ≡ left (next n l) i c k
+  next-left : (n : ℕ) (l : List Float) (i c k : ℕ) → length l ≡ d * d → n < d → k ≤ n → left d s l i c k ≡ left d s (next n l) i c k
   next-left n l i c k hl hn hk =
       left-same l (next n l) i c k
       (λ o h. sym (next-before n l i o hl hn (omega arith)))
@@ -122,21 +115,17 @@ module _ (d : ℕ) (s : List Float) where
   columns zero h k = (s, (h, (λ m c q. absurd (omega arith)), (λ m q. absurd (omega arith))))
   columns (suc n) h k = let p = columns n h (omega arith) in (next n (p .0), next-upto n (p .0) (p .1) (omega arith))
 
-  pub lawful : length s ≡ d * d → (l : List Float) × Lawful l
-  lawful h = let p = columns d h (omega arith) in (p .0, ((λ m c q r. p .1 .1 m c (omega arith) q r), (λ m q. p .1 .2 m q q)))
+  pub lawful : length s ≡ d * d → (l : List Float) × Lawful d s l
+  lawful h = let p = columns d h (omega arith) in (p .0, record { quotients = λ m c q r. p .1 .1 m c (omega arith) q r; roots = λ m q. p .1 .2 m q q })
 
 -- ---- the definition's run, where l is lawful
 
 module _ (d : ℕ) (s l : List Float) where
-  -- cells that no test stops: of the rows before n, in columns before k
-  abbrev pub Sound : ℕ → ℕ → Type 0
-  Sound n k = ((m c : ℕ) → m < n → c < m → c < k → finite (entry d l m c) ≡ true) × ((m : ℕ) → m < n → m < k → (finite (left d s l m m m) && lt null (left d s l m m m)) ≡ true)
-
   -- the definition's matrix before the cell in row i and column k
   abbrev Reached : ℕ → ℕ → List Float → Type 0
   Reached i k C =
       (length C ≡ d * d)
-      × ((m c : ℕ) → m < i → c ≤ m → entry d C m c ≡ entry d l m c)
+      × Made d l C i
       × ((c : ℕ) → c < k → entry d C i c ≡ entry d l i c)
       × ((m c : ℕ) → i < m → c < d → entry d C m c ≡ entry d s m c)
       × ((c : ℕ) → k ≤ c → c < d → entry d C i c ≡ entry d s i c)
@@ -191,50 +180,50 @@ module _ (d : ℕ) (s l : List Float) where
 
   made : (i c : ℕ) (C : List Float) → Lawful d s l → Reached i c C → c < i → i < d → finite (entry d l i c) ≡ true → factorEntry d i c C ≡ done (set C (i * d + c) (entry d l i c))
   made i c C law r h hi t =
-      let e = law .0 i c h hi in
+      let e = law .quotients i c h hi in
       sym (ap (λ (y : Float). done (set C (i * d + c) y)) e ∙ entry-done d i c C (left d s l i c c) (entry d l c c) (finite (entry d l i c)) (reached-left i c C r (omega arith) hi) (sym (r .1 c c h (omega arith))) (ap finite e) t)
 
   refused : (i c : ℕ) (C : List Float) → Lawful d s l → Reached i c C → c < i → i < d → finite (entry d l i c) ≡ false → factorEntry d i c C ≡ stopped 16 i
   refused i c C law r h hi t =
-      sym (entry-stops d i c C (left d s l i c c) (entry d l c c) (finite (entry d l i c)) (reached-left i c C r (omega arith) hi) (sym (r .1 c c h (omega arith))) (ap finite (law .0 i c h hi)) t)
+      sym (entry-stops d i c C (left d s l i c c) (entry d l c c) (finite (entry d l i c)) (reached-left i c C r (omega arith) hi) (sym (r .1 c c h (omega arith))) (ap finite (law .quotients i c h hi)) t)
 
   -- a row's first k entries
-  row-run : (i k : ℕ) (C : List Float) → Lawful d s l → Reached i 0 C → k ≤ i → i < d → ((c : ℕ) → c < k → finite (entry d l i c) ≡ true) → (B : List Float) × (run (factorEntry d i) k C ≡ done B) × Reached i k B
+  row-run : (i k : ℕ) (C : List Float) → Lawful d s l → Reached i 0 C → k ≤ i → i < d → Passes d l i k → (B : List Float) × (run (factorEntry d i) k C ≡ done B) × Reached i k B
   row-run i zero C law r hk hi f = (C, run-none (factorEntry d i) C, r)
   row-run i (suc k) C law r hk hi f =
       let p = row-run i k C law r (omega arith) hi (λ c h. f c (omega arith)) in
       (set (p .0) (i * d + k) (entry d l i k), run-more (factorEntry d i) k C (p .0) (p .1) ∙ made i k (p .0) law (p .2) (omega arith) hi (f k (omega arith)), reached-more i k (p .0) (p .2) (omega arith) hi)
 
   -- a whole row
-  whole : (i : ℕ) (C : List Float) → Lawful d s l → Reached i 0 C → i < d → ((c : ℕ) → c < i → finite (entry d l i c) ≡ true) → (finite (left d s l i i i) && lt null (left d s l i i i)) ≡ true → (B : List Float) × (factorRow d i C ≡ done B) × Reached (suc i) 0 B
+  whole : (i : ℕ) (C : List Float) → Lawful d s l → Reached i 0 C → i < d → Passes d l i i → positive d s l i ≡ true → (B : List Float) × (factorRow d i C ≡ done B) × Reached (suc i) 0 B
   whole i C law r hi f g =
       let p = row-run i i C law r (omega arith) hi f in
       let t = both-true (finite (left d s l i i i)) (lt null (left d s l i i i)) g in
-      (set (p .0) (i * d + i) (entry d l i i), sym (row-ends d i C (p .0) (p .1)) ∙ sym (pivot-done d i (p .0) (left d s l i i i) (entry d l i i) (finite (left d s l i i i)) (reached-left i i (p .0) (p .2) (omega arith) hi) refl (t .0) (t .1) (law .1 i hi)), reached-row i (p .0) (p .2) hi)
+      (set (p .0) (i * d + i) (entry d l i i), sym (row-ends d i C (p .0) (p .1)) ∙ sym (pivot-done d i (p .0) (left d s l i i i) (entry d l i i) (finite (left d s l i i i)) (reached-left i i (p .0) (p .2) (omega arith) hi) refl (t .0) (t .1) (law .roots i hi)), reached-row i (p .0) (p .2) hi)
 
-  rows-run : (n : ℕ) → length s ≡ d * d → Lawful d s l → Sound n n → n ≤ d → (C : List Float) × (run (factorRow d) n s ≡ done C) × Reached n 0 C
+  rows-run : (n : ℕ) → length s ≡ d * d → Lawful d s l → Sound d s l n n → n ≤ d → (C : List Float) × (run (factorRow d) n s ≡ done C) × Reached n 0 C
   rows-run zero hl law h k = (s, run-none (factorRow d) s, (hl, (λ m c q. absurd (omega arith)), (λ c q. absurd (omega arith)), (λ m c q z. refl), (λ c q z. refl), (λ m c q z. refl)))
   rows-run (suc n) hl law h k =
-      let p = rows-run n hl law ((λ m c a b e. h .0 m c (omega arith) b (omega arith)), (λ m a b. h .1 m (omega arith) (omega arith))) (omega arith) in
-      let q = whole n (p .0) law (p .2) (omega arith) (λ c e. h .0 n c (omega arith) e (omega arith)) (h .1 n (omega arith) (omega arith)) in
+      let p = rows-run n hl law (record { entries = λ m c a b e. h .entries m c (omega arith) b (omega arith); pivots = λ m a b. h .pivots m (omega arith) (omega arith) }) (omega arith) in
+      let q = whole n (p .0) law (p .2) (omega arith) (λ c e. h .entries n c (omega arith) e (omega arith)) (h .pivots n (omega arith) (omega arith)) in
       (q .0, run-more (factorRow d) n s (p .0) (p .1) ∙ q .1, q .2)
 
   -- the answers: an entry that is not finite, a pivot that is not finite or not above 0, and none of these
-  pub stops-at-entry : (i c : ℕ) → length s ≡ d * d → Lawful d s l → Sound i i → i < d → c < i → ((k : ℕ) → k < c → finite (entry d l i k) ≡ true) → finite (entry d l i c) ≡ false → stopped 16 i ≡ factor d s
+  pub stops-at-entry : (i c : ℕ) → length s ≡ d * d → Lawful d s l → Sound d s l i i → i < d → c < i → Passes d l i c → finite (entry d l i c) ≡ false → stopped 16 i ≡ factor d s
   unfolding factor
   stops-at-entry i c hl law h hi hc f t =
       let p = rows-run i hl law h (omega arith) in
       let q = row-run i c (p .0) law (p .2) (omega arith) hi f in
       sym (run-stops (factorRow d) i d s (p .0) 16 i (p .1) (sym (row-stops d i c (p .0) (q .0) 16 i (q .1) (refused i c (q .0) law (q .2) hc hi t) hc)) hi)
 
-  pub stops-at-pivot : (i : ℕ) → length s ≡ d * d → Lawful d s l → Sound i i → i < d → ((k : ℕ) → k < i → finite (entry d l i k) ≡ true) → (finite (left d s l i i i) && lt null (left d s l i i i)) ≡ false → stopped 15 i ≡ factor d s
+  pub stops-at-pivot : (i : ℕ) → length s ≡ d * d → Lawful d s l → Sound d s l i i → i < d → Passes d l i i → positive d s l i ≡ false → stopped 15 i ≡ factor d s
   unfolding factor
   stops-at-pivot i hl law h hi f t =
       let p = rows-run i hl law h (omega arith) in
       let q = row-run i i (p .0) law (p .2) (omega arith) hi f in
       sym (run-stops (factorRow d) i d s (p .0) 15 i (p .1) (sym (row-ends d i (p .0) (q .0) (q .1)) ∙ sym (pivot-stops d i (q .0) (left d s l i i i) (reached-left i i (q .0) (q .2) (omega arith) hi) t)) hi)
 
-  pub ends : (B : List Float) → length s ≡ d * d → Lawful d s l → Sound d d → length B ≡ d * d → ((m c : ℕ) → m < d → c ≤ m → entry d B m c ≡ entry d l m c) → ((m c : ℕ) → m < c → c < d → entry d B m c ≡ entry d s m c) → done B ≡ factor d s
+  pub ends : (B : List Float) → length s ≡ d * d → Lawful d s l → Sound d s l d d → length B ≡ d * d → Made d l B d → ((m c : ℕ) → m < c → c < d → entry d B m c ≡ entry d s m c) → done B ≡ factor d s
   unfolding factor
   ends B hl law h hB f g =
       let p = rows-run d hl law h (omega arith) in

@@ -7,16 +7,14 @@ use native.Mathlib.Nat.{eq-or-lt-of-le}
 use native.Mathlib.Omega.{arith}
 use lib.ListN.{length, getD, set, length-set}
 use lib.Seq.{getD-set-same, getD-set-other}
-use lib.Ieee.{Float, nan, binary64, sub, mul}
+use lib.Ieee.{Float, nan}
 use Rattle.cholesky.specs.declared.Four.{Four}
-use Rattle.cholesky.specs.Cholesky.{entry, innerStep}
+use Rattle.cholesky.specs.Cholesky.{entry}
+use Rattle.cholesky.specs.Stages.{taken, packed, slots, Stands, Packed, RowUpdated, RowsUpdated, Updated}
 use Rattle.cholesky.proofs.Places.{below-or-not}
 use Rattle.cholesky.proofs.Lower.{entry-same, entry-other}
 
 -- ---- the columns, packed
-
-abbrev pub slots : List Float → ℕ → Four → List Float
-slots p t x = set (set (set (set p t (x .first)) (256 + t) (x .second)) (512 + t) (x .third)) (768 + t) (x .fourth)
 
 slots-other : (p : List Float) (t k : ℕ) (x : Four) → ((k ≡ t) → ⊥) → ((k ≡ 256 + t) → ⊥) → ((k ≡ 512 + t) → ⊥) → ((k ≡ 768 + t) → ⊥) → getD (slots p t x) k nan ≡ getD p k nan
 slots-other p t k x e f g h =
@@ -43,11 +41,7 @@ slots-own p t x hp ht =
     )
 
 module _ (d : ℕ) where
-  -- the columns j to j + 3 of the rows from `from` on, t of them
-  abbrev pub Packed : List Float → ℕ → ℕ → ℕ → List Float → Type 0
-  Packed A j from n p = (t : ℕ) → t < n → (getD p t nan ≡ entry d A (from + t) j) × (getD p (256 + t) nan ≡ entry d A (from + t) (j + 1)) × (getD p (512 + t) nan ≡ entry d A (from + t) (j + 2)) × (getD p (768 + t) nan ≡ entry d A (from + t) (j + 3))
-
-  pub packed-more : (A : List Float) (j from n : ℕ) (p w : List Float) (x : Four) → Packed A j from n p → (x .first ≡ entry d A (from + n) j) × (x .second ≡ entry d A (from + n) (j + 1)) × (x .third ≡ entry d A (from + n) (j + 2)) × (x .fourth ≡ entry d A (from + n) (j + 3)) → w ≡ slots p n x → length p ≡ 1024 → n < 256 → Packed A j from (n + 1) w
+  pub packed-more : (A : List Float) (j from n : ℕ) (p w : List Float) (x : Four) → Packed d A j from n p → Stands d A (from + n) j x → w ≡ slots p n x → length p ≡ 1024 → n < 256 → Packed d A j from (n + 1) w
   packed-more A j from n p w x h e f hp hn = λ t ht.
       ⊎-elim
       (λ (q : t ≡ n). let o = slots-own p n x hp hn in rw (f, q) (o .0 ∙ e .0, o .1 ∙ e .1, o .2 ∙ e .2, o .3 ∙ e .3))
@@ -63,80 +57,60 @@ module _ (d : ℕ) where
 
   -- ---- one row
 
-  abbrev pub taken : Float → Float → Float → Float → Float → List Float → ℕ → Float
-  taken v x y z w p t = sub binary64 (sub binary64 (sub binary64 (sub binary64 v (mul binary64 x (getD p t nan))) (mul binary64 y (getD p (256 + t) nan))) (mul binary64 z (getD p (512 + t) nan))) (mul binary64 w (getD p (768 + t) nan))
+  pub row-none : (A : List Float) (i from : ℕ) (x : Four) (p : List Float) → RowUpdated d A A i from 0 x p
+  row-none A i from x p = record { cells = λ t h. absurd (omega arith); rest = λ m c h k. refl }
 
-  abbrev pub RowUpdated : List Float → List Float → ℕ → ℕ → ℕ → Four → List Float → Type 0
-  RowUpdated A B i from n x p =
-      ((t : ℕ) → t < n → entry d B i (from + t) ≡ taken (entry d A i (from + t)) (x .first) (x .second) (x .third) (x .fourth) p t)
-      × ((m c : ℕ) → ((m ≡ i) × (from ≤ c) × (c < from + n) → ⊥) → c < d → entry d B m c ≡ entry d A m c)
-
-  pub row-none : (A : List Float) (i from : ℕ) (x : Four) (p : List Float) → RowUpdated A A i from 0 x p
-  row-none A i from x p = ((λ t h. absurd (omega arith)), (λ m c h k. refl))
-
-  pub row-more : (A B : List Float) (i from n : ℕ) (x : Four) (p : List Float) (y : Float) → RowUpdated A B i from n x p → y ≡ taken (getD B (i * d + (from + n)) nan) (x .first) (x .second) (x .third) (x .fourth) p n → length B ≡ d * d → i < d → from + n < d → RowUpdated A (set B (i * d + (from + n)) y) i from (n + 1) x p
-  row-more A B i from n x p y h e hl hi hn = (
-    (λ t ht.
+  pub row-more : (A B : List Float) (i from n : ℕ) (x : Four) (p : List Float) (y : Float) → RowUpdated d A B i from n x p → y ≡ taken (getD B (i * d + (from + n)) nan) x (packed p n) → length B ≡ d * d → i < d → from + n < d → RowUpdated d A (set B (i * d + (from + n)) y) i from (n + 1) x p
+  row-more A B i from n x p y h e hl hi hn = record {
+    cells = λ t ht.
         ⊎-elim
-        (λ (q : t ≡ n). rw q (entry-same d B i (from + n) y hl hi hn ∙ e ∙ ap (λ (v : Float). taken v (x .first) (x .second) (x .third) (x .fourth) p n) (h .1 i (from + n) (λ q. omega arith) hn)))
-        (λ (b : t < n). entry-other d B i (from + n) i (from + t) y (λ q. omega arith) hn (omega arith) ∙ h .0 t b)
-        (eq-or-lt-of-le {n = t} {m = n} (omega arith))),
-    (λ m c g hc. entry-other d B i (from + n) m c y (λ q. g (q .0, omega arith, omega arith)) hn hc ∙ h .1 m c (λ q. g (q .0, q .1, omega arith)) hc),
-  )
+        (λ (q : t ≡ n). rw q (entry-same d B i (from + n) y hl hi hn ∙ e ∙ ap (λ (v : Float). taken v x (packed p n)) (h .rest i (from + n) (λ q. omega arith) hn)))
+        (λ (b : t < n). entry-other d B i (from + n) i (from + t) y (λ q. omega arith) hn (omega arith) ∙ h .cells t b)
+        (eq-or-lt-of-le {n = t} {m = n} (omega arith));
+    rest = λ m c g hc. entry-other d B i (from + n) m c y (λ q. g (q .0, omega arith, omega arith)) hn hc ∙ h .rest m c (λ q. g (q .0, q .1, omega arith)) hc;
+  }
 
   -- ---- the rows before i
 
-  abbrev pub RowsUpdated : List Float → List Float → ℕ → ℕ → ℕ → ℕ → List Float → Type 0
-  RowsUpdated A B j from n i p =
-      ((m t : ℕ) → t < n → from + t ≤ m → m < i → entry d B m (from + t) ≡ taken (entry d A m (from + t)) (entry d A m j) (entry d A m (j + 1)) (entry d A m (j + 2)) (entry d A m (j + 3)) p t)
-      × ((m c : ℕ) → ((from ≤ c) × (c < from + n) × (c ≤ m) × (m < i) → ⊥) → c < d → entry d B m c ≡ entry d A m c)
+  pub rows-none : (A : List Float) (j from n : ℕ) (p : List Float) → RowsUpdated d A A j from n from p
+  rows-none A j from n p = record { cells = λ m t h k l. absurd (omega arith); rest = λ m c h k. refl }
 
-  pub rows-none : (A : List Float) (j from n : ℕ) (p : List Float) → RowsUpdated A A j from n from p
-  rows-none A j from n p = ((λ m t h k l. absurd (omega arith)), (λ m c h k. refl))
-
-  pub rows-more : (A B C : List Float) (j from n i w : ℕ) (x : Four) (p : List Float) → RowsUpdated A B j from n i p → (x .first ≡ entry d B i j) × (x .second ≡ entry d B i (j + 1)) × (x .third ≡ entry d B i (j + 2)) × (x .fourth ≡ entry d B i (j + 3)) → w ≡ min n (i + 1 - from) → RowUpdated B C i from w x p → j + 4 ≤ from → from ≤ i → i < d → from + n ≤ d → RowsUpdated A C j from n (i + 1) p
+  pub rows-more : (A B C : List Float) (j from n i w : ℕ) (x : Four) (p : List Float) → RowsUpdated d A B j from n i p → Stands d B i j x → w ≡ min n (i + 1 - from) → RowUpdated d B C i from w x p → j + 4 ≤ from → from ≤ i → i < d → from + n ≤ d → RowsUpdated d A C j from n (i + 1) p
   rows-more A B C j from n i w x p h e ew u hj hf hi hn =
-      let o : (c : ℕ) → c < from → entry d B i c ≡ entry d A i c = λ c l. h .1 i c (λ q. omega arith) (omega arith) in (
-        (λ m t ht hm hi.
+      let o : (c : ℕ) → c < from → entry d B i c ≡ entry d A i c = λ c l. h .rest i c (λ q. omega arith) (omega arith) in
+      record {
+        cells = λ m t ht hm hi.
             ⊎-elim
-            (λ (q : m ≡ i). rw q (u .0 t (omega arith) ∙ rw (e .0 ∙ o j (omega arith), e .1 ∙ o (j + 1) (omega arith), e .2 ∙ o (j + 2) (omega arith), e .3 ∙ o (j + 3) (omega arith), h .1 i (from + t) (λ z. omega arith) (omega arith))))
-            (λ (b : m < i). u .1 m (from + t) (λ q. omega arith) (omega arith) ∙ h .0 m t ht hm b)
-            (eq-or-lt-of-le {n = m} {m = i} (omega arith))),
-        (λ m c g hc. u .1 m c (λ q. g (q .1, omega arith, omega arith, omega arith)) hc ∙ h .1 m c (λ q. g (q .0, q .1, q .2, omega arith)) hc),
-      )
+            (λ (q : m ≡ i). rw q (u .cells t (omega arith) ∙ rw (e .0 ∙ o j (omega arith), e .1 ∙ o (j + 1) (omega arith), e .2 ∙ o (j + 2) (omega arith), e .3 ∙ o (j + 3) (omega arith), h .rest i (from + t) (λ z. omega arith) (omega arith))))
+            (λ (b : m < i). u .rest m (from + t) (λ q. omega arith) (omega arith) ∙ h .cells m t ht hm b)
+            (eq-or-lt-of-le {n = m} {m = i} (omega arith));
+        rest = λ m c g hc. u .rest m c (λ q. g (q .1, omega arith, omega arith, omega arith)) hc ∙ h .rest m c (λ q. g (q .0, q .1, q .2, omega arith)) hc;
+      }
 
   -- ---- the columns before k
 
-  -- four products of A's
-  abbrev pub four-taken : List Float → ℕ → ℕ → ℕ → Float
-  four-taken A j m c = innerStep d A m c (j + 3) (innerStep d A m c (j + 2) (innerStep d A m c (j + 1) (innerStep d A m c j (entry d A m c))))
-
-  abbrev pub Updated : List Float → List Float → ℕ → ℕ → ℕ → ℕ → Type 0
-  Updated A B j from k rows =
-      ((m c : ℕ) → from ≤ c → c < k → c ≤ m → m < rows → entry d B m c ≡ four-taken A j m c)
-      × ((m c : ℕ) → ((from ≤ c) × (c < k) × (c ≤ m) × (m < rows) → ⊥) → c < d → entry d B m c ≡ entry d A m c)
-
-  pub unpacked : (A B : List Float) (j from n rows : ℕ) (p : List Float) → Packed A j from n p → RowsUpdated A B j from n rows p → Updated A B j from (from + n) rows
-  unpacked A B j from n rows p h u = (
-    (λ m c hf hk hm hr.
+  pub unpacked : (A B : List Float) (j from n rows : ℕ) (p : List Float) → Packed d A j from n p → RowsUpdated d A B j from n rows p → Updated d A B j from (from + n) rows
+  unpacked A B j from n rows p h u = record {
+    cells = λ m c hf hk hm hr.
         let e : from + (c - from) ≡ c = omega arith in
-        let v = u .0 m (c - from) (omega arith) (omega arith) hr in
+        let v = u .cells m (c - from) (omega arith) (omega arith) hr in
         let g = h (c - from) (omega arith) in
-        rw e at (rw (g .0, g .1, g .2, g .3) at v)),
-    (λ m c g hc. u .1 m c g hc),
-  )
+        rw e at (rw (g .0, g .1, g .2, g .3) at v);
+    rest = u .rest;
+  }
 
-  pub updated-none : (A : List Float) (j from rows : ℕ) → Updated A A j from from rows
-  updated-none A j from rows = ((λ m c h k. absurd (omega arith)), (λ m c h k. refl))
+  pub updated-none : (A : List Float) (j from rows : ℕ) → Updated d A A j from from rows
+  updated-none A j from rows = record { cells = λ m c h k. absurd (omega arith); rest = λ m c h k. refl }
 
-  pub updated-more : (A B C : List Float) (j from k n rows : ℕ) → Updated A B j from k rows → Updated B C j k n rows → j + 4 ≤ from → from ≤ k → k ≤ n → rows ≤ d → Updated A C j from n rows
+  pub updated-more : (A B C : List Float) (j from k n rows : ℕ) → Updated d A B j from k rows → Updated d B C j k n rows → j + 4 ≤ from → from ≤ k → k ≤ n → rows ≤ d → Updated d A C j from n rows
   updated-more A B C j from k n rows h u hj hf hk hr =
-      let o : (m c : ℕ) → c < from → c < d → entry d B m c ≡ entry d A m c = λ m c l q. h .1 m c (λ z. omega arith) q in (
-        (λ m c hc hn hm hw.
+      let o : (m c : ℕ) → c < from → c < d → entry d B m c ≡ entry d A m c = λ m c l q. h .rest m c (λ z. omega arith) q in
+      record {
+        cells = λ m c hc hn hm hw.
             ⊎-elim
-            (λ (b : c < k). u .1 m c (λ q. omega arith) (omega arith) ∙ h .0 m c hc b hm hw)
-            (λ (b : k ≤ c). u .0 m c b hn hm hw ∙ rw (
-              h .1 m c (λ q. omega arith) (omega arith),
+            (λ (b : c < k). u .rest m c (λ q. omega arith) (omega arith) ∙ h .cells m c hc b hm hw)
+            (λ (b : k ≤ c). u .cells m c b hn hm hw ∙ rw (
+              h .rest m c (λ q. omega arith) (omega arith),
               o m j (omega arith) (omega arith),
               o m (j + 1) (omega arith) (omega arith),
               o m (j + 2) (omega arith) (omega arith),
@@ -146,10 +120,6 @@ module _ (d : ℕ) where
               o c (j + 2) (omega arith) (omega arith),
               o c (j + 3) (omega arith) (omega arith),
             ))
-            (below-or-not c k)),
-        (λ m c g hc. u .1 m c (λ q. g (omega arith, q .1, q .2, q .3)) hc ∙ h .1 m c (λ q. g (q .0, omega arith, q .2, q .3)) hc),
-      )
-
-  -- all of them
-  pub updated-all : (A B : List Float) (j from k rows : ℕ) → Updated A B j from k rows → rows ≤ k → ((m c : ℕ) → from ≤ c → c ≤ m → m < rows → entry d B m c ≡ four-taken A j m c) × ((m c : ℕ) → ((from ≤ c) × (c ≤ m) × (m < rows) → ⊥) → c < d → entry d B m c ≡ entry d A m c)
-  updated-all A B j from k rows u h = ((λ m c hf hm hr. u .0 m c hf (omega arith) hm hr), (λ m c g hc. u .1 m c (λ q. g (q .0, q .2, q .3)) hc))
+            (below-or-not c k);
+        rest = λ m c g hc. u .rest m c (λ q. g (omega arith, q .1, q .2, q .3)) hc ∙ h .rest m c (λ q. g (q .0, omega arith, q .2, q .3)) hc;
+      }

@@ -1,1 +1,2 @@
 pub mod Cholesky
+pub mod Stages

@@ -6,16 +6,12 @@ use field::put3;
 use sqrt::sqrt;
 ghost use mathlib.Core.Path.{_≡_};
 ghost use mathlib.Core.List.{List};
-ghost use mathlib.Core.Bool.{true, _&&_};
-ghost use Prim.Native.Nat.{ℕ, _+_, _*_, _<_, _≤_, min};
-ghost use lib.ListN.{length, getD, set, take};
-ghost use lib.Ieee.{Float, nan, binary64, sub, mul, div, lt};
-ghost use lib.Ieee.Scale.{finite};
-ghost use Rattle.field.specs.Vec.{null};
-ghost use Rattle.sqrt.specs.Root.{root};
+ghost use Prim.Native.Nat.{_+_, _*_, _<_, _≤_, min};
+ghost use lib.ListN.{length, take};
+ghost use lib.Ieee.{Float};
 ghost use Rattle.field.specs.Buffer.{load, store, vector};
-ghost use Rattle.field.specs.Count.{upto};
-ghost use Rattle.cholesky.specs.Cholesky.{stopped, ended, entry as entryOf, innerStep, factorEntry, pivot as pivotOf, factor as factorOf, forwardVector, forward as forwardOf, backVector, backRow, back as backOf, finite3 as finiteVector, Substituted};
+ghost use Rattle.cholesky.specs.Cholesky.{ended, entry as entryOf, factorEntry, pivot as pivotOf, factor as factorOf, forwardVector, forward as forwardOf, backVector, backRow, back as backOf, finite3 as finiteVector, Substituted};
+ghost use Rattle.cholesky.specs.Stages.{finite4 as finiteFour, taken, packed, slots, Stands, stored, Solves, Packed, RowUpdated, RowsUpdated, Updated, reduced, Continues, RowReady, RowEnds, RowsReady, RowsEnd, PanelReady, PanelEnds, Beside};
 
 // How a factor or a substitution ends: done, or stopped by document 01's refusal `number` at the row `row`.
 pub enum Solve {
@@ -42,7 +38,7 @@ fn entry(a: &[f64], d: usize, i: usize, j: usize) -> f64
 // a_ij - l_i0 l_j0 - .. - l_i,j-1 l_j,j-1, where the products before `from` are taken off already: u is a_ij.
 fn remainder(a: &[f64], d: usize, i: usize, j: usize, from: usize) -> f64
     requires { ⌜ (length (now a) ≡ d * d) × (from ≤ j) × (j ≤ i) × (i < d) ⌝ }
-    ensures { λ r. ⌜ ((u : Float) → entryOf d (now (a .entry)) i j ≡ upto (innerStep d (now (a .entry)) i j) from u → r ≡ upto (innerStep d (now (a .entry)) i j) j u) ⌝ }
+    ensures { λ r. ⌜ ((u : Float) → entryOf d (now (a .entry)) i j ≡ reduced d (now (a .entry)) i j from u → r ≡ reduced d (now (a .entry)) i j j u) ⌝ }
 {
     let mut v = entry(a, d, i, j);
     let mut k = from;
@@ -56,7 +52,7 @@ fn remainder(a: &[f64], d: usize, i: usize, j: usize, from: usize) -> f64
 // l_ij, the remainder over l_jj.
 fn factor_entry(a: &mut [f64], d: usize, i: usize, j: usize, from: usize) -> Solve
     requires { ⌜ (length (now a) ≡ d * d) × (from ≤ j) × (j < i) × (i < d) ⌝ }
-    ensures { λ r. ⌜ ((u : Float) → entryOf d (now (a .entry)) i j ≡ upto (innerStep d (now (a .entry)) i j) from u → ended r (now (a .exit)) ≡ factorEntry d i j (set (now (a .entry)) (i * d + j) u)) ⌝ }
+    ensures { λ r. ⌜ Continues d (factorEntry d i j) (now (a .entry)) i j from r (now (a .exit)) ⌝ }
 {
     let x = remainder(a, d, i, j, from) / entry(a, d, j, j);
     if is_finite(x) {
@@ -69,7 +65,7 @@ fn factor_entry(a: &mut [f64], d: usize, i: usize, j: usize, from: usize) -> Sol
 // l_ii, the root of the remainder.
 fn pivot(a: &mut [f64], d: usize, i: usize, from: usize) -> Solve
     requires { ⌜ (length (now a) ≡ d * d) × (from ≤ i) × (i < d) ⌝ }
-    ensures { λ r. ⌜ ((u : Float) → entryOf d (now (a .entry)) i i ≡ upto (innerStep d (now (a .entry)) i i) from u → ended r (now (a .exit)) ≡ pivotOf d i (set (now (a .entry)) (i * d + i) u)) ⌝ }
+    ensures { λ r. ⌜ Continues d (pivotOf d i) (now (a .entry)) i i from r (now (a .exit)) ⌝ }
 {
     let v = remainder(a, d, i, i, from);
     if is_finite(v) && 0.0 < v {
@@ -83,7 +79,7 @@ fn pivot(a: &mut [f64], d: usize, i: usize, from: usize) -> Solve
 // A row from column `from` on, where the rows before it are made, and its own entries before `from`. Here and in what follows s is the matrix at entry, and l has what the factor's cells are when no test stops it.
 fn finish_row(a: &mut [f64], d: usize, i: usize, from: usize) -> Solve
     requires { ⌜ (length (now a) ≡ d * d) × (from ≤ i) × (i < d) ⌝ }
-    ensures { λ r. ⌜ ((s l : List Float) → length s ≡ d * d → ((m c : ℕ) → c < m → m < d → entryOf d l m c ≡ div binary64 (upto (innerStep d l m c) c (entryOf d s m c)) (entryOf d l c c)) × ((m : ℕ) → m < d → entryOf d l m m ≡ root binary64 (upto (innerStep d l m m) m (entryOf d s m m))) → ((m c : ℕ) → m < i → c < m → c < i → finite (entryOf d l m c) ≡ true) × ((m : ℕ) → m < i → m < i → (finite (upto (innerStep d l m m) m (entryOf d s m m)) && lt null (upto (innerStep d l m m) m (entryOf d s m m))) ≡ true) → ((c : ℕ) → c < from → finite (entryOf d l i c) ≡ true) → ((m c : ℕ) → m < i → c ≤ m → entryOf d (now (a .entry)) m c ≡ entryOf d l m c) → ((c : ℕ) → c < from → entryOf d (now (a .entry)) i c ≡ entryOf d l i c) → ((c : ℕ) → from ≤ c → c ≤ i → entryOf d (now (a .entry)) i c ≡ upto (innerStep d l i c) from (entryOf d s i c)) → (r ≡ Solve.Done → ((c : ℕ) → c ≤ i → entryOf d (now (a .exit)) i c ≡ entryOf d l i c) × ((c : ℕ) → c < i → finite (entryOf d l i c) ≡ true) × ((finite (upto (innerStep d l i i) i (entryOf d s i i)) && lt null (upto (innerStep d l i i) i (entryOf d s i i))) ≡ true) × ((m c : ℕ) → ((m ≡ i) × (c ≤ i) → ⊥) → c < d → entryOf d (now (a .exit)) m c ≡ entryOf d (now (a .entry)) m c)) × ((n q : ℕ) → r ≡ Solve.Stopped n q → stopped n q ≡ factorOf d s)) ⌝ }
+    ensures { λ r. ⌜ ((s l : List Float) → RowReady d s l (now (a .entry)) i from → RowEnds d s l r (now (a .entry)) (now (a .exit)) i) ⌝ }
 {
     let mut j = from;
     while j < i {
@@ -99,7 +95,7 @@ fn finish_row(a: &mut [f64], d: usize, i: usize, from: usize) -> Solve
 // The rows `from` to `to` - 1, where all entries before column `from` are made.
 fn finish_rows(a: &mut [f64], d: usize, from: usize, to: usize) -> Solve
     requires { ⌜ (length (now a) ≡ d * d) × (from ≤ to) × (to ≤ d) ⌝ }
-    ensures { λ r. ⌜ ((s l : List Float) → length s ≡ d * d → ((m c : ℕ) → c < m → m < d → entryOf d l m c ≡ div binary64 (upto (innerStep d l m c) c (entryOf d s m c)) (entryOf d l c c)) × ((m : ℕ) → m < d → entryOf d l m m ≡ root binary64 (upto (innerStep d l m m) m (entryOf d s m m))) → ((m c : ℕ) → m < to → c < m → c < from → finite (entryOf d l m c) ≡ true) × ((m : ℕ) → m < to → m < from → (finite (upto (innerStep d l m m) m (entryOf d s m m)) && lt null (upto (innerStep d l m m) m (entryOf d s m m))) ≡ true) → ((m c : ℕ) → m < to → c ≤ m → c < from → entryOf d (now (a .entry)) m c ≡ entryOf d l m c) × ((m c : ℕ) → m < to → c ≤ m → from ≤ c → entryOf d (now (a .entry)) m c ≡ upto (innerStep d l m c) from (entryOf d s m c)) → (r ≡ Solve.Done → ((m c : ℕ) → m < to → c ≤ m → entryOf d (now (a .exit)) m c ≡ entryOf d l m c) × ((m c : ℕ) → m < to → c < m → c < to → finite (entryOf d l m c) ≡ true) × ((m : ℕ) → m < to → m < to → (finite (upto (innerStep d l m m) m (entryOf d s m m)) && lt null (upto (innerStep d l m m) m (entryOf d s m m))) ≡ true) × ((m c : ℕ) → ((m < to) × (c ≤ m) → ⊥) → c < d → entryOf d (now (a .exit)) m c ≡ entryOf d (now (a .entry)) m c)) × ((n q : ℕ) → r ≡ Solve.Stopped n q → stopped n q ≡ factorOf d s)) ⌝ }
+    ensures { λ r. ⌜ ((s l : List Float) → RowsReady d s l (now (a .entry)) from to → RowsEnd d s l r (now (a .entry)) (now (a .exit)) to) ⌝ }
 {
     let mut i = from;
     while i < to {
@@ -115,7 +111,7 @@ fn finish_rows(a: &mut [f64], d: usize, from: usize, to: usize) -> Solve
 // a_ij to a_i,j+3.
 fn get_four(a: &[f64], d: usize, i: usize, j: usize) -> Four
     requires { ⌜ (length (now a) ≡ d * d) × (j + 3 < d) × (i < d) ⌝ }
-    ensures { λ r. ⌜ (r .first ≡ entryOf d (now (a .entry)) i j) × (r .second ≡ entryOf d (now (a .entry)) i (j + 1)) × (r .third ≡ entryOf d (now (a .entry)) i (j + 2)) × (r .fourth ≡ entryOf d (now (a .entry)) i (j + 3)) ⌝ }
+    ensures { λ r. ⌜ Stands d (now (a .entry)) i j r ⌝ }
 {
     let first = entry(a, d, i, j);
     let second = entry(a, d, i, j + 1);
@@ -131,7 +127,7 @@ fn get_four(a: &[f64], d: usize, i: usize, j: usize) -> Four
 
 fn put_four(a: &mut [f64], d: usize, i: usize, j: usize, v: Four)
     requires { ⌜ (length (now a) ≡ d * d) × (j + 3 < d) × (i < d) ⌝ }
-    ensures { λ r. ⌜ now (a .exit) ≡ set (set (set (set (now (a .entry)) (i * d + j) (v .first)) (i * d + (j + 1)) (v .second)) (i * d + (j + 2)) (v .third)) (i * d + (j + 3)) (v .fourth) ⌝ }
+    ensures { λ r. ⌜ now (a .exit) ≡ stored d (now (a .entry)) i j v ⌝ }
 {
     let p = i * d + j;
     a[p] = v.first;
@@ -143,7 +139,7 @@ fn put_four(a: &mut [f64], d: usize, i: usize, j: usize, v: Four)
 // The entries in the columns j to j + 3 of a later row, from what the first j products leave of their remainders.
 fn solve_four(a: &[f64], d: usize, j: usize, v: Four) -> Four
     requires { ⌜ (length (now a) ≡ d * d) × (j + 3 < d) ⌝ }
-    ensures { λ r. ⌜ (r .first ≡ div binary64 (v .first) (entryOf d (now (a .entry)) j j)) × (r .second ≡ div binary64 (sub binary64 (v .second) (mul binary64 (r .first) (entryOf d (now (a .entry)) (j + 1) j))) (entryOf d (now (a .entry)) (j + 1) (j + 1))) × (r .third ≡ div binary64 (sub binary64 (sub binary64 (v .third) (mul binary64 (r .first) (entryOf d (now (a .entry)) (j + 2) j))) (mul binary64 (r .second) (entryOf d (now (a .entry)) (j + 2) (j + 1)))) (entryOf d (now (a .entry)) (j + 2) (j + 2))) × (r .fourth ≡ div binary64 (sub binary64 (sub binary64 (sub binary64 (v .fourth) (mul binary64 (r .first) (entryOf d (now (a .entry)) (j + 3) j))) (mul binary64 (r .second) (entryOf d (now (a .entry)) (j + 3) (j + 1)))) (mul binary64 (r .third) (entryOf d (now (a .entry)) (j + 3) (j + 2)))) (entryOf d (now (a .entry)) (j + 3) (j + 3))) ⌝ }
+    ensures { λ r. ⌜ Solves d (now (a .entry)) j v r ⌝ }
 {
     let k = j + 1;
     let l = j + 2;
@@ -166,7 +162,7 @@ fn solve_four(a: &[f64], d: usize, j: usize, v: Four) -> Four
 }
 
 fn finite4(v: Four) -> bool
-    ensures { λ r. ⌜ r ≡ (finite (v .first) && (finite (v .second) && (finite (v .third) && finite (v .fourth)))) ⌝ }
+    ensures { λ r. ⌜ r ≡ finiteFour v ⌝ }
 {
     is_finite(v.first) && (is_finite(v.second) && (is_finite(v.third) && is_finite(v.fourth)))
 }
@@ -174,7 +170,7 @@ fn finite4(v: Four) -> bool
 // The columns j to j + 3 of the rows below their pivots, down to the first row with an entry that is not finite: that row, or `rows`. It is refused unless a row above it is.
 fn panel(a: &mut [f64], d: usize, j: usize, rows: usize) -> usize
     requires { ⌜ (length (now a) ≡ d * d) × (j + 4 ≤ rows) × (rows ≤ d) ⌝ }
-    ensures { λ r. ⌜ (j + 4 ≤ r) × (r ≤ rows) × ((s l : List Float) → length s ≡ d * d → ((m c : ℕ) → c < m → m < d → entryOf d l m c ≡ div binary64 (upto (innerStep d l m c) c (entryOf d s m c)) (entryOf d l c c)) × ((m : ℕ) → m < d → entryOf d l m m ≡ root binary64 (upto (innerStep d l m m) m (entryOf d s m m))) → ((m c : ℕ) → m < rows → c < m → c < j → finite (entryOf d l m c) ≡ true) × ((m : ℕ) → m < rows → m < j → (finite (upto (innerStep d l m m) m (entryOf d s m m)) && lt null (upto (innerStep d l m m) m (entryOf d s m m))) ≡ true) → ((m c : ℕ) → m < j + 4 → c ≤ m → entryOf d (now (a .entry)) m c ≡ entryOf d l m c) → ((m c : ℕ) → j + 4 ≤ m → m < rows → j ≤ c → c < j + 4 → entryOf d (now (a .entry)) m c ≡ upto (innerStep d l m c) j (entryOf d s m c)) → ((m c : ℕ) → j + 4 ≤ m → m < r → j ≤ c → c < j + 4 → (entryOf d (now (a .exit)) m c ≡ entryOf d l m c) × (finite (entryOf d l m c) ≡ true)) × (r < rows → ((m c : ℕ) → m < r → c < m → c < r → finite (entryOf d l m c) ≡ true) × ((m : ℕ) → m < r → m < r → (finite (upto (innerStep d l m m) m (entryOf d s m m)) && lt null (upto (innerStep d l m m) m (entryOf d s m m))) ≡ true) → stopped 16 r ≡ factorOf d s)) × ((m c : ℕ) → ((j + 4 ≤ m) × (m < r) × (j ≤ c) × (c < j + 4) → ⊥) → c < d → entryOf d (now (a .exit)) m c ≡ entryOf d (now (a .entry)) m c) ⌝ }
+    ensures { λ r. ⌜ (j + 4 ≤ r) × (r ≤ rows) × ((s l : List Float) → PanelReady d s l (now (a .entry)) j rows → PanelEnds d s l (now (a .exit)) j rows r) × Beside d (now (a .entry)) (now (a .exit)) j r ⌝ }
 {
     let mut i = j + 4;
     while i < rows {
@@ -192,7 +188,7 @@ fn panel(a: &mut [f64], d: usize, j: usize, rows: usize) -> usize
 // A row's four entries, at place t of each column.
 fn pack_row(p: &mut [f64], t: usize, x: Four)
     requires { ⌜ (length (now p) ≡ 1024) × (t < 256) ⌝ }
-    ensures { λ r. ⌜ now (p .exit) ≡ set (set (set (set (now (p .entry)) t (x .first)) (256 + t) (x .second)) (512 + t) (x .third)) (768 + t) (x .fourth) ⌝ }
+    ensures { λ r. ⌜ now (p .exit) ≡ slots (now (p .entry)) t x ⌝ }
 {
     p[t] = x.first;
     p[256 + t] = x.second;
@@ -203,7 +199,7 @@ fn pack_row(p: &mut [f64], t: usize, x: Four)
 // The columns j to j + 3 of n rows, one column after the other in p, so that an update of a row runs along p.
 fn pack(a: &[f64], p: &mut [f64], d: usize, j: usize, from: usize, n: usize)
     requires { ⌜ (length (now a) ≡ d * d) × (length (now p) ≡ 1024) × (j + 3 < d) × (from + n ≤ d) × (n ≤ 256) ⌝ }
-    ensures { λ r. ⌜ ((t : ℕ) → t < n → (getD (now (p .exit)) t nan ≡ entryOf d (now (a .entry)) (from + t) j) × (getD (now (p .exit)) (256 + t) nan ≡ entryOf d (now (a .entry)) (from + t) (j + 1)) × (getD (now (p .exit)) (512 + t) nan ≡ entryOf d (now (a .entry)) (from + t) (j + 2)) × (getD (now (p .exit)) (768 + t) nan ≡ entryOf d (now (a .entry)) (from + t) (j + 3))) ⌝ }
+    ensures { λ r. ⌜ Packed d (now (a .entry)) j from n (now (p .exit)) ⌝ }
 {
     let mut t = 0usize;
     while t < n {
@@ -216,7 +212,7 @@ fn pack(a: &[f64], p: &mut [f64], d: usize, j: usize, from: usize, n: usize)
 // Four products taken off v: x has the row's entries, p the column's.
 fn take_four(v: f64, x: Four, p: &[f64], t: usize) -> f64
     requires { ⌜ (length (now p) ≡ 1024) × (t < 256) ⌝ }
-    ensures { λ r. ⌜ r ≡ sub binary64 (sub binary64 (sub binary64 (sub binary64 v (mul binary64 (x .first) (getD (now (p .entry)) t nan))) (mul binary64 (x .second) (getD (now (p .entry)) (256 + t) nan))) (mul binary64 (x .third) (getD (now (p .entry)) (512 + t) nan))) (mul binary64 (x .fourth) (getD (now (p .entry)) (768 + t) nan)) ⌝ }
+    ensures { λ r. ⌜ r ≡ taken v x (packed (now (p .entry)) t) ⌝ }
 {
     v - x.first * p[t] - x.second * p[256 + t] - x.third * p[512 + t] - x.fourth * p[768 + t]
 }
@@ -224,7 +220,7 @@ fn take_four(v: f64, x: Four, p: &[f64], t: usize) -> f64
 // Four products taken off each of n entries of row i: x is the row's, p the packed columns'.
 fn update_row(a: &mut [f64], p: &[f64], d: usize, i: usize, from: usize, n: usize, x: Four)
     requires { ⌜ (length (now a) ≡ d * d) × (length (now p) ≡ 1024) × (i < d) × (from + n ≤ d) × (n ≤ 256) ⌝ }
-    ensures { λ r. ⌜ ((t : ℕ) → t < n → entryOf d (now (a .exit)) i (from + t) ≡ sub binary64 (sub binary64 (sub binary64 (sub binary64 (entryOf d (now (a .entry)) i (from + t)) (mul binary64 (x .first) (getD (now (p .entry)) t nan))) (mul binary64 (x .second) (getD (now (p .entry)) (256 + t) nan))) (mul binary64 (x .third) (getD (now (p .entry)) (512 + t) nan))) (mul binary64 (x .fourth) (getD (now (p .entry)) (768 + t) nan))) × ((m c : ℕ) → ((m ≡ i) × (from ≤ c) × (c < from + n) → ⊥) → c < d → entryOf d (now (a .exit)) m c ≡ entryOf d (now (a .entry)) m c) ⌝ }
+    ensures { λ r. ⌜ RowUpdated d (now (a .entry)) (now (a .exit)) i from n x (now (p .entry)) ⌝ }
 {
     let mut t = 0usize;
     while t < n {
@@ -245,7 +241,7 @@ fn lesser(x: usize, y: usize) -> usize
 // The same in the lower triangle's rows from `from` on.
 fn update_rows(a: &mut [f64], p: &[f64], d: usize, j: usize, from: usize, n: usize, rows: usize)
     requires { ⌜ (length (now a) ≡ d * d) × (length (now p) ≡ 1024) × (j + 4 ≤ from) × (from + n ≤ rows) × (rows ≤ d) × (n ≤ 256) ⌝ }
-    ensures { λ r. ⌜ ((m t : ℕ) → t < n → from + t ≤ m → m < rows → entryOf d (now (a .exit)) m (from + t) ≡ sub binary64 (sub binary64 (sub binary64 (sub binary64 (entryOf d (now (a .entry)) m (from + t)) (mul binary64 (entryOf d (now (a .entry)) m j) (getD (now (p .entry)) t nan))) (mul binary64 (entryOf d (now (a .entry)) m (j + 1)) (getD (now (p .entry)) (256 + t) nan))) (mul binary64 (entryOf d (now (a .entry)) m (j + 2)) (getD (now (p .entry)) (512 + t) nan))) (mul binary64 (entryOf d (now (a .entry)) m (j + 3)) (getD (now (p .entry)) (768 + t) nan))) × ((m c : ℕ) → ((from ≤ c) × (c < from + n) × (c ≤ m) × (m < rows) → ⊥) → c < d → entryOf d (now (a .exit)) m c ≡ entryOf d (now (a .entry)) m c) ⌝ }
+    ensures { λ r. ⌜ RowsUpdated d (now (a .entry)) (now (a .exit)) j from n rows (now (p .entry)) ⌝ }
 {
     let mut i = from;
     while i < rows {
@@ -267,7 +263,7 @@ fn update_columns(
     rows: usize,
 )
     requires { ⌜ (length (now a) ≡ d * d) × (length (now p) ≡ 1024) × (j + 4 ≤ from) × (from + n ≤ rows) × (rows ≤ d) × (n ≤ 256) ⌝ }
-    ensures { λ r. ⌜ ((m c : ℕ) → from ≤ c → c < from + n → c ≤ m → m < rows → entryOf d (now (a .exit)) m c ≡ innerStep d (now (a .entry)) m c (j + 3) (innerStep d (now (a .entry)) m c (j + 2) (innerStep d (now (a .entry)) m c (j + 1) (innerStep d (now (a .entry)) m c j (entryOf d (now (a .entry)) m c))))) × ((m c : ℕ) → ((from ≤ c) × (c < from + n) × (c ≤ m) × (m < rows) → ⊥) → c < d → entryOf d (now (a .exit)) m c ≡ entryOf d (now (a .entry)) m c) ⌝ }
+    ensures { λ r. ⌜ Updated d (now (a .entry)) (now (a .exit)) j from (from + n) rows ⌝ }
 {
     pack(a, p, d, j, from, n);
     update_rows(a, p, d, j, from, n, rows);
@@ -276,7 +272,7 @@ fn update_columns(
 // The products of the columns j to j + 3, taken off what stands to the right of them, as many columns at a time as p holds.
 fn update(a: &mut [f64], p: &mut [f64], d: usize, j: usize, rows: usize)
     requires { ⌜ (length (now a) ≡ d * d) × (length (now p) ≡ 1024) × (j + 4 ≤ rows) × (rows ≤ d) ⌝ }
-    ensures { λ r. ⌜ ((m c : ℕ) → j + 4 ≤ c → c ≤ m → m < rows → entryOf d (now (a .exit)) m c ≡ innerStep d (now (a .entry)) m c (j + 3) (innerStep d (now (a .entry)) m c (j + 2) (innerStep d (now (a .entry)) m c (j + 1) (innerStep d (now (a .entry)) m c j (entryOf d (now (a .entry)) m c))))) × ((m c : ℕ) → ((j + 4 ≤ c) × (c ≤ m) × (m < rows) → ⊥) → c < d → entryOf d (now (a .exit)) m c ≡ entryOf d (now (a .entry)) m c) ⌝ }
+    ensures { λ r. ⌜ Updated d (now (a .entry)) (now (a .exit)) j (j + 4) rows rows ⌝ }
 {
     let mut from = j + 4;
     while from < rows {

@@ -1,14 +1,15 @@
 -- What a finite result says of the operands, and sums out of which no NaN comes. Assumes nothing.
 use mathlib.Core.Path.{_≡_, refl, sym, ap, _∙_}
-use mathlib.Core.Bool.{Bool, true, false, cond, true≢false, false≢true}
+use mathlib.Core.Bool.{Bool, true, false, not, cond, true≢false, false≢true}
 use mathlib.Core.Logic.{⊎-elim}
-use Prim.Native.Nat.{ℕ, zero, suc, _+_, _*_, _^_, _<_, _≤_}
+use Prim.Native.Nat.{ℕ, zero, suc, _+_, _-_, _*_, _^_, _<_, _≤_}
 use native.Mathlib.Omega.{arith}
-use native.Mathlib.Nat.{eq-or-lt-of-le, le-of-suc-le-suc}
+use native.Mathlib.Nat.{eq-or-lt-of-le, le-of-suc-le-suc, le-refl, mul-pos, sub-self, zero-mul}
+use borrow.Author.Tests.{le-ltb}
 use lib.Dec.{eqb, ltb}
-use lib.Ieee.{Float, nan, inf, fin, Format, prec, low, emax, unlike, up, down, neg, sum, add, sub, mul, round, units, odd, isNan}
-use lib.Ieee.Scale.{finite}
-use lib.Ieee.Fits.{round-is}
+use lib.Ieee.{Float, nan, inf, fin, Format, binary64, ofBits, prec, low, emax, unlike, up, down, neg, sum, add, sub, mul, round, units, odd, isNan}
+use lib.Ieee.Scale.{finite, round-same}
+use lib.Ieee.Fits.{round-is, down-pos}
 use Rattle.double.specs.Sums.{total, unsigned}
 
 -- ---- a sum, a difference or a product is finite only if each operand is
@@ -139,3 +140,22 @@ unsigned-total f g z n h k = total-keeps unsigned f g z n (unsigned-add f) h k
 pub squares-no-nan : (f : Format) (g : ℕ → Float) (z : Float) (n : ℕ) → unsigned z ≡ true → ((k : ℕ) → k < n → isNan (g k) ≡ false) → isNan (total f (λ k. mul f (g k) (g k)) z n) ≡ false
 squares-no-nan f g z n h k =
     unsigned-no-nan (total f (λ k. mul f (g k) (g k)) z n) (unsigned-total f (λ k. mul f (g k) (g k)) z n h (λ j l. unsigned-square f (g j) (k j l)))
+
+-- ---- a number less itself
+
+nothing : (c : ℕ) → 0 < c → round binary64 false 0 c ≡ round binary64 false 0 1
+nothing c h = round-same binary64 false 0 c 0 1 h (omega arith) (omega (arith, zero-mul c))
+
+-- ±a / c ∓ a / c
+none : (s : Bool) (a c : ℕ) → 0 < c → sum binary64 s a (not s) a c ≡ round binary64 false 0 1
+unfolding sum
+none true a c h = rw (le-ltb a a (le-refl a), sub-self a) (nothing c h)
+none false a c h = rw (le-ltb a a (le-refl a), sub-self a) (nothing c h)
+
+-- zero where it is finite, else NaN
+pub less-itself : (x : Float) → sub binary64 x x ≡ cond (finite x) (ofBits binary64 0) nan
+unfolding sub neg add ofBits round
+less-itself nan = refl
+less-itself (inf true) = refl
+less-itself (inf false) = refl
+less-itself (fin s m e) = rw (none s (m * up e * down e) (down e * down e) (mul-pos (down-pos e) (down-pos e))) refl

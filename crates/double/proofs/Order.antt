@@ -1,6 +1,6 @@
 -- The order of doubles where no NaN is, and sums and products of numbers not below zero (`nonneg`). Assumes nothing.
 use mathlib.Core.Path.{_≡_, refl, sym, ap, _∙_, subst}
-use mathlib.Core.Bool.{Bool, true, false, not, cond, _||_, _&&_, or-true, true≢false, false≢true}
+use mathlib.Core.Bool.{Bool, true, false, not, cond, _||_, _&&_, and-false, or-true, true≢false, false≢true}
 use mathlib.Core.Logic.{⊎-elim}
 use Prim.Native.Nat.{ℕ, zero, suc, _+_, _-_, _*_, _<_, _≤_}
 use native.Mathlib.Omega.{arith}
@@ -74,6 +74,39 @@ le-of-not-lt (inf false) (fin t n d) p q h = absurd (true≢false h)
 le-of-not-lt (fin s m e) (inf true) p q h = absurd (true≢false h)
 le-of-not-lt (fin s m e) (inf false) p q h = refl
 le-of-not-lt (fin s m e) (fin t n d) p q h = order s (m * up e * down d) t (n * up d * down e) h
+
+-- and a ≤ b only then
+disorder : (s : Bool) (a : ℕ) (t : Bool) (b : ℕ) → below t b s a ≡ true → (below s a t b || level s a t b) ≡ false
+disorder false a false b h = let l : b < a = ltb-true b a h in rw (le-ltb a b (omega arith), ne-eqb a b (λ e. omega arith))
+disorder false a true b h = go (eqb a 0) refl
+  where
+    go : (q : Bool) → eqb a 0 ≡ q → (eqb a b && q) ≡ false
+    go true e = let l : 0 < b + a = ltb-true 0 (b + a) h in let z : a ≡ 0 = eqb-true a 0 e in rw (ne-eqb a b (λ e. omega arith))
+    go false e = and-false (eqb a b)
+disorder true a false b h = absurd (false≢true h)
+disorder true a true b h = let l : a < b = ltb-true a b h in rw (le-ltb b a (omega arith), ne-eqb a b (λ e. omega arith))
+
+not-le : (a b : Float) → lt b a ≡ true → le a b ≡ false
+unfolding le lt eq
+not-le nan b h = refl
+not-le (inf s) nan h = absurd (false≢true h)
+not-le (fin s m e) nan h = absurd (false≢true h)
+not-le (inf true) (inf true) h = absurd (false≢true h)
+not-le (inf true) (inf false) h = absurd (false≢true h)
+not-le (inf false) (inf true) h = refl
+not-le (inf false) (inf false) h = absurd (false≢true h)
+not-le (inf true) (fin t n d) h = absurd (false≢true h)
+not-le (inf false) (fin t n d) h = refl
+not-le (fin s m e) (inf true) h = refl
+not-le (fin s m e) (inf false) h = absurd (false≢true h)
+not-le (fin s m e) (fin t n d) h = disorder s (m * up e * down d) t (n * up d * down e) h
+
+pub le-not-lt : (a b : Float) → isNan a ≡ false → isNan b ≡ false → le a b ≡ not (lt b a)
+le-not-lt a b p q = go (lt b a) refl
+  where
+    go : (r : Bool) → lt b a ≡ r → le a b ≡ not r
+    go true e = not-le a b e
+    go false e = le-of-not-lt a b p q e
 
 -- ---- addition commutes
 -- a difference, taken either way

@@ -1,14 +1,35 @@
 // Doubles: what the kernel needs of IEEE 754's binary64 beyond the operators.
 ghost use mathlib.Core.Path.{_≡_};
-ghost use lib.Ieee.{binary64, toBits};
+ghost use mathlib.Core.Bool.{not, _&&_};
+ghost use lib.Ieee.{binary64, lt, ofBits, toBits};
 ghost use lib.Ieee.Scale.{finite};
 ghost use Rattle.double.specs.Double.{greater, magnitude, decoded};
 
-// x - x is 0 where x is finite, and NaN elsewhere.
+// x - x is 0 where x is finite, and NaN elsewhere, of which no comparison holds. Here and in the next three one comparison tells all.
 pub fn is_finite(x: f64) -> bool
     ensures { λ r. ⌜ r ≡ finite x ⌝ }
 {
-    x - x == 0.0
+    0.0 <= x - x
+}
+
+pub fn all_finite(x: f64, y: f64, z: f64) -> bool
+    ensures { λ r. ⌜ r ≡ (finite x && (finite y && finite z)) ⌝ }
+{
+    0.0 <= (x - x) + (y - y) + (z - z)
+}
+
+// Finite, and not below zero.
+pub fn is_nonnegative(x: f64) -> bool
+    ensures { λ r. ⌜ r ≡ (finite x && not (lt x (ofBits binary64 0))) ⌝ }
+{
+    x - x <= x
+}
+
+// Finite, and above zero.
+pub fn is_positive(x: f64) -> bool
+    ensures { λ r. ⌜ r ≡ (finite x && lt (ofBits binary64 0) x) ⌝ }
+{
+    x - x < x
 }
 
 pub fn is_nan(x: f64) -> bool

@@ -1,24 +1,23 @@
 // 7: the domain.
-use crate::answers::both;
 use crate::answers::either;
-use double::is_finite;
+use double::all_finite;
+use double::is_nonnegative;
+use double::is_positive;
 use field::Place;
-use field::Vec3;
 use field::get3;
 ghost use mathlib.Core.Path.{_≡_};
 ghost use Prim.Native.Nat.{_+_, _*_, _<_, _≤_};
 ghost use lib.ListN.{length};
 ghost use mathlib.Core.List.{[], _∷_};
 ghost use Rattle.field.specs.Count.{lowest};
-ghost use Rattle.network.specs.Refusals.{section, running, badWeight, badScale, isFinite, badVector, badRow};
+ghost use Rattle.network.specs.Refusals.{section, running, badWeight, badScale, badVector, badRow};
 
 // The weight of row r is not finite, or below zero.
 fn bad_weight_at(weights: &[f64], r: usize) -> bool
     requires { ⌜ r < length (now weights) ⌝ }
     ensures { λ x. ⌜ x ≡ badWeight (now (weights .entry)) r ⌝ }
 {
-    let w = weights[r];
-    either(!is_finite(w), w < 0.0)
+    !is_nonnegative(weights[r])
 }
 
 // The lowest of `count` rows whose weight is outside the domain.
@@ -41,14 +40,7 @@ fn bad_scale_at(scales: &[f64], r: usize) -> bool
     requires { ⌜ r < length (now scales) ⌝ }
     ensures { λ x. ⌜ x ≡ badScale (now (scales .entry)) r ⌝ }
 {
-    let s = scales[r];
-    either(!is_finite(s), !(0.0 < s))
-}
-
-fn all_finite(v: Vec3) -> bool
-    ensures { λ x. ⌜ x ≡ isFinite v ⌝ }
-{
-    both(is_finite(v.x), both(is_finite(v.y), is_finite(v.z)))
+    !is_positive(scales[r])
 }
 
 // Vector i of a slice of them is not finite.
@@ -56,7 +48,8 @@ fn bad_vector_at(s: &[f64], i: usize) -> bool
     requires { ⌜ 3 * i + 3 ≤ length (now s) ⌝ }
     ensures { λ x. ⌜ x ≡ badVector (now (s .entry)) i ⌝ }
 {
-    !all_finite(get3(s, 3 * i))
+    let v = get3(s, 3 * i);
+    !all_finite(v.x, v.y, v.z)
 }
 
 // The lowest of `count` vectors that is not finite.

@@ -4,7 +4,8 @@ use mathlib.Core.List.{List}
 use lib.ListN.{length}
 use lib.Ieee.{Float}
 use borrow.Author.Needs.{needs}
-use Rattle.cholesky.proofs.Lower.{Lawful, lawful}
+use Rattle.cholesky.specs.Stages.{Lawful}
+use Rattle.cholesky.proofs.Lower.{lawful}
 use Rattle.cholesky.proofs.Panels.{Stage, stage-starts, stage-goes, corner-stops, last-stops, last-refused, last-done}
 use native.Mathlib.Omega.{arith}
 use Rattle.cholesky.proofs.factor.Statement.{statement}
@@ -64,8 +65,7 @@ loop-again c =
     let a = c .before .before .before .before .before .before .before .before .before .before .before .before .before .before .before .before .before .before .before .args in
     let v = c .before .before .before .before .before .before .before .before .before .before .before .before .before .before .before .before .before .loop .inv in
     let p = c .before .before .before .before .before .before .before .before .panel .ensures in
-    let u = c .before .before .before .update .ensures in
-    (omega arith, omega arith, omega arith, omega arith, λ l law. stage-goes (a .d) (a .a .now) l (c .before .before .before .before .before .before .before .before .before .before .before .before .before .before .before .before .before .loop .a) (c .before .before .before .before .before .before .before .before .before .before .before .before .before .before .finish-rows .last .0) (c .before .before .before .before .before .before .before .before .before .before .before .before .before .before .before .before .before .loop .rows) (c .before .before .before .before .before .before .before .before .before .before .before .before .before .before .before .before .before .loop .j) (c .before .before .before .before .before .before .before .before .before .before .before .before .before .before .finish-rows .result) (c .before .before .before .before .before .before .before .before .before .before .before .before .before .before .before .before .before .before .before .pre) law (v .4 l law) (c .before .before .before .before .before .before .before .before .before .before .before .before .before .before .finish-rows .ensures (a .a .now) l) (omega arith) (omega arith) (c .before .before .before .before .before .before .before .before .panel .last .0) (c .before .before .before .update .last .0) (c .before .before .before .before .before .before .before .before .panel .result) (c .before .before .before .before .before .before .before .before .before .before .enum-told .given .1) (p .2 (a .a .now) l) (p .3) (p .0) (p .1) (u .0) (u .1))
+    (omega arith, omega arith, omega arith, omega arith, λ l law. stage-goes (a .d) (a .a .now) l (c .before .before .before .before .before .before .before .before .before .before .before .before .before .before .before .before .before .loop .a) (c .before .before .before .before .before .before .before .before .before .before .before .before .before .before .finish-rows .last .0) (c .before .before .before .before .before .before .before .before .before .before .before .before .before .before .before .before .before .loop .rows) (c .before .before .before .before .before .before .before .before .before .before .before .before .before .before .before .before .before .loop .j) (c .before .before .before .before .before .before .before .before .before .before .before .before .before .before .finish-rows .result) (c .before .before .before .before .before .before .before .before .before .before .before .before .before .before .before .before .before .before .before .pre) law (v .4 l law) (c .before .before .before .before .before .before .before .before .before .before .before .before .before .before .finish-rows .ensures (a .a .now) l) (omega arith) (omega arith) (c .before .before .before .before .before .before .before .before .panel .last .0) (c .before .before .before .update .last .0) (c .before .before .before .before .before .before .before .before .panel .result) (c .before .before .before .before .before .before .before .before .before .before .enum-told .given .1) (p .2 (a .a .now) l) (p .3) (p .0) (p .1) (c .before .before .before .update .ensures))
 
 finish-rows-requires-2 : tie.Need-finish-rows-requires-2 Inv-loop μ-loop
 finish-rows-requires-2 c κs = omega arith

@@ -4,13 +4,14 @@ use mathlib.Core.List.{List}
 use lib.ListN.{length}
 use lib.Ieee.{Float}
 use borrow.Author.Needs.{needs}
-use Rattle.cholesky.proofs.Finished.{RowGiven, RowMade, row-starts, row-goes, row-breaks, row-closes}
+use Rattle.cholesky.specs.Stages.{RowReady}
+use Rattle.cholesky.proofs.Finished.{RowMade, row-starts, row-goes, row-breaks, row-closes}
 use native.Mathlib.Omega.{arith}
 use Rattle.cholesky.proofs.finish_row.Statement.{statement}
 use Rattle.cholesky.proofs.finish_row.Tie as tie
 
 abbrev Inv-loop : tie.InvT-loop
-Inv-loop a₀ d i from j₀ a j = (from ≤ j) × (j ≤ i) × (length a ≡ length a₀) × ((s l : List Float) → RowGiven d s l a₀ i from (RowMade d s l a₀ a i from j))
+Inv-loop a₀ d i from j₀ a j = (from ≤ j) × (j ≤ i) × (length a ≡ length a₀) × ((s l : List Float) → RowReady d s l a₀ i from → RowMade d s l a₀ a i from j)
 
 abbrev μ-loop : tie.MeasureT-loop
 μ-loop a₀ d i from j₀ a j = i - j

@@ -4,13 +4,14 @@ use mathlib.Core.List.{List}
 use lib.ListN.{length}
 use lib.Ieee.{Float}
 use borrow.Author.Needs.{needs}
-use Rattle.cholesky.proofs.Finished.{RowsGiven, RowsMade, rows-start, rows-go, rows-break, rows-close}
+use Rattle.cholesky.specs.Stages.{RowsReady, RowsDone}
+use Rattle.cholesky.proofs.Finished.{rows-start, rows-go, rows-break, rows-close}
 use native.Mathlib.Omega.{arith}
 use Rattle.cholesky.proofs.finish_rows.Statement.{statement}
 use Rattle.cholesky.proofs.finish_rows.Tie as tie
 
 abbrev Inv-loop : tie.InvT-loop
-Inv-loop a₀ d from to i₀ a i = (from ≤ i) × (i ≤ to) × (length a ≡ length a₀) × ((s l : List Float) → RowsGiven d s l a₀ from to (RowsMade d s l a₀ a i))
+Inv-loop a₀ d from to i₀ a i = (from ≤ i) × (i ≤ to) × (length a ≡ length a₀) × ((s l : List Float) → RowsReady d s l a₀ from to → RowsDone d s l a₀ a i)
 
 abbrev μ-loop : tie.MeasureT-loop
 μ-loop a₀ d from to i₀ a i = to - i

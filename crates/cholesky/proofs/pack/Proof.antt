@@ -1,4 +1,5 @@
-use Rattle.cholesky.proofs.Updates.{Packed, packed-more}
+use Rattle.cholesky.specs.Stages.{Packed}
+use Rattle.cholesky.proofs.Updates.{packed-more}
 use lib.ListN.{length}
 use Prim.Native.Nat.{_≤_, _-_}
 use mathlib.Core.Path.{_≡_}

@@ -3,13 +3,14 @@ use Prim.Native.Nat.{_+_, _≤_, _-_}
 use mathlib.Core.List.{List}
 use lib.ListN.{length}
 use lib.Ieee.{Float}
-use Rattle.cholesky.proofs.Panels.{Beside, beside-none, beside-more, PanelGiven, PanelMade, panel-none, panel-goes, panel-breaks, panel-closes}
+use Rattle.cholesky.specs.Stages.{Beside, PanelReady, PanelMade}
+use Rattle.cholesky.proofs.Panels.{beside-none, beside-more, panel-none, panel-goes, panel-breaks, panel-closes}
 use native.Mathlib.Omega.{arith}
 use Rattle.cholesky.proofs.panel.Statement.{statement}
 use Rattle.cholesky.proofs.panel.Tie as tie
 
 abbrev Inv-loop : tie.InvT-loop
-Inv-loop a₀ d j rows i₀ a i = (j + 4 ≤ i) × (i ≤ rows) × (length a ≡ length a₀) × Beside d a₀ a j i × ((s l : List Float) → PanelGiven d s l a₀ j rows (PanelMade d s l a j i))
+Inv-loop a₀ d j rows i₀ a i = (j + 4 ≤ i) × (i ≤ rows) × (length a ≡ length a₀) × Beside d a₀ a j i × ((s l : List Float) → PanelReady d s l a₀ j rows → PanelMade d s l a j i)
 
 abbrev μ-loop : tie.MeasureT-loop
 μ-loop a₀ d j rows i₀ a i = rows - i
@@ -18,7 +19,7 @@ add-i : tie.Need-add-i Inv-loop μ-loop
 add-i c = omega arith
 
 loop-holds : tie.Need-loop-holds Inv-loop μ-loop
-loop-holds c = let a = c .before .args in (omega arith, omega arith, refl, beside-none (a .d) (a .a .now) (a .j) (a .j + 4), λ s l hs law so h w. panel-none (a .d) s l (a .a .now) (a .j))
+loop-holds c = let a = c .before .args in (omega arith, omega arith, refl, beside-none (a .d) (a .a .now) (a .j) (a .j + 4), λ s l w. panel-none (a .d) s l (a .a .now) (a .j))
 
 get-four-requires : tie.Need-get-four-requires Inv-loop μ-loop
 get-four-requires c κs = omega arith

@@ -1,6 +1,6 @@
 use Rattle.cholesky.proofs.Lower.{product-more}
-use Rattle.cholesky.specs.Cholesky.{entry, innerStep}
-use Rattle.field.specs.Count.{upto}
+use Rattle.cholesky.specs.Cholesky.{entry}
+use Rattle.cholesky.specs.Stages.{reduced}
 use lib.Ieee.{Float}
 use Prim.Native.Nat.{_≤_, _-_}
 use mathlib.Core.Path.{_≡_, _∙_}
@@ -9,7 +9,7 @@ use Rattle.cholesky.proofs.remainder.Statement.{statement}
 use Rattle.cholesky.proofs.remainder.Tie as tie
 
 abbrev Inv-loop : tie.InvT-loop
-Inv-loop a d i j from v₀ k₀ v k = (k ≤ j) × ((u : Float) → entry d a i j ≡ upto (innerStep d a i j) from u → v ≡ upto (innerStep d a i j) k u)
+Inv-loop a d i j from v₀ k₀ v k = (k ≤ j) × ((u : Float) → entry d a i j ≡ reduced d a i j from u → v ≡ reduced d a i j k u)
 
 abbrev μ-loop : tie.MeasureT-loop
 μ-loop a d i j from v₀ k₀ v k = j - k

@@ -1,7 +1,8 @@
 use mathlib.Core.Path.{_≡_, refl}
 use Prim.Native.Nat.{_+_, _≤_, _-_}
 use lib.ListN.{length}
-use Rattle.cholesky.proofs.Updates.{Updated, updated-none, updated-more, updated-all}
+use Rattle.cholesky.specs.Stages.{Updated}
+use Rattle.cholesky.proofs.Updates.{updated-none, updated-more}
 use native.Mathlib.Omega.{arith}
 use Rattle.cholesky.proofs.update.Statement.{statement}
 use Rattle.cholesky.proofs.update.Tie as tie
@@ -46,7 +47,9 @@ same-length-2 : tie.Need-same-length-2 Inv-loop μ-loop
 same-length-2 c = omega arith
 
 returns : tie.Need-returns Inv-loop μ-loop
-returns c = let a = c .before .before .before .before .args in updated-all (a .d) (a .a .now) (c .before .loop .a) (a .j) (a .j + 4) (c .before .loop .from) (a .rows) (c .before .loop .inv .4) (omega arith)
+returns c =
+    let e : c .before .loop .from ≡ c .before .before .before .before .args .rows = omega arith in
+    rw e at (c .before .loop .inv .4)
 
 pub update-spec : {M : Type 1} → statement M
 update-spec =

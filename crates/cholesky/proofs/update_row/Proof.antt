@@ -1,4 +1,5 @@
-use Rattle.cholesky.proofs.Updates.{RowUpdated, row-none, row-more}
+use Rattle.cholesky.specs.Stages.{RowUpdated}
+use Rattle.cholesky.proofs.Updates.{row-none, row-more}
 use Rattle.cholesky.proofs.Places.{place-below}
 use lib.ListN.{length, length-set}
 use Prim.Native.Nat.{_+_, _≤_, _-_}

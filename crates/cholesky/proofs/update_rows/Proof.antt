@@ -1,7 +1,8 @@
 use mathlib.Core.Path.{_≡_, refl}
 use Prim.Native.Nat.{_≤_, _-_}
 use lib.ListN.{length}
-use Rattle.cholesky.proofs.Updates.{RowsUpdated, rows-none, rows-more}
+use Rattle.cholesky.specs.Stages.{RowsUpdated}
+use Rattle.cholesky.proofs.Updates.{rows-none, rows-more}
 use native.Mathlib.Omega.{arith}
 use Rattle.cholesky.proofs.update_rows.Statement.{statement}
 use Rattle.cholesky.proofs.update_rows.Tie as tie

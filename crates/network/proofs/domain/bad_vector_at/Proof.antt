@@ -15,7 +15,7 @@ all-finite-requires : tie.Need-all-finite-requires
 all-finite-requires c κs = search needs
 
 returns : tie.Need-returns
-unfolding badVector
+unfolding badVector isFinite
 returns c = ap not (c .all-finite .ensures ∙ ap isFinite (c .before .get3 .ensures))
 
 pub bad-vector-at-spec : {M : Type 1} → statement M
