@@ -10,7 +10,7 @@ use lib.Seq.{getD-set-same, getD-set-other}
 use lib.Ieee.{Float, nan}
 use Rattle.cholesky.specs.declared.Four.{Four}
 use Rattle.cholesky.specs.Cholesky.{entry}
-use Rattle.cholesky.specs.Stages.{taken, packed, slots, Stands, Packed, RowUpdated, RowsUpdated, Updated}
+use Rattle.cholesky.specs.Stages.{taken, packed, slots, Stands, Packed, RowUpdated, PairUpdated, RowsUpdated, Updated}
 use Rattle.cholesky.proofs.Places.{below-or-not}
 use Rattle.cholesky.proofs.Lower.{entry-same, entry-other}
 
@@ -70,10 +70,48 @@ module _ (d : ℕ) where
     rest = λ m c g hc. entry-other d B i (from + n) m c y (λ q. g (q .0, omega arith, omega arith)) hn hc ∙ h .rest m c (λ q. g (q .0, q .1, omega arith)) hc;
   }
 
+  -- ---- two rows
+
+  pub pair-none : (A : List Float) (i from : ℕ) (x y : Four) (p : List Float) → PairUpdated d A A i from 0 0 x y p
+  pair-none A i from x y p = record { upper = λ t h. absurd (omega arith); lower = λ t h. absurd (omega arith); rest = λ m c g h k. refl }
+
+  pub pair-upper : (A B : List Float) (i from w v : ℕ) (x y : Four) (p : List Float) (u : Float) → PairUpdated d A B i from w v x y p → u ≡ taken (entry d B i (from + w)) x (packed p w) → length B ≡ d * d → i < d → from + w < d → from + v ≤ d → PairUpdated d A (set B (i * d + (from + w)) u) i from (w + 1) v x y p
+  pair-upper A B i from w v x y p u h e hl hi hw hv = record {
+    upper = λ t ht.
+        ⊎-elim
+        (λ (q : t ≡ w). rw q (entry-same d B i (from + w) u hl hi hw ∙ e ∙ ap (λ (z : Float). taken z x (packed p w)) (h .rest i (from + w) (λ q. omega arith) (λ q. omega arith) hw)))
+        (λ (b : t < w). entry-other d B i (from + w) i (from + t) u (λ q. omega arith) hw (omega arith) ∙ h .upper t b)
+        (eq-or-lt-of-le {n = t} {m = w} (omega arith));
+    lower = λ t ht. entry-other d B i (from + w) (i + 1) (from + t) u (λ q. omega arith) hw (omega arith) ∙ h .lower t ht;
+    rest = λ m c f g hc. entry-other d B i (from + w) m c u (λ q. f (q .0, omega arith, omega arith)) hw hc ∙ h .rest m c (λ q. f (q .0, q .1, omega arith)) g hc;
+  }
+
+  pub pair-lower : (A B : List Float) (i from w v : ℕ) (x y : Four) (p : List Float) (u : Float) → PairUpdated d A B i from w v x y p → u ≡ taken (entry d B (i + 1) (from + v)) y (packed p v) → length B ≡ d * d → i + 1 < d → from + v < d → from + w ≤ d → PairUpdated d A (set B ((i + 1) * d + (from + v)) u) i from w (v + 1) x y p
+  pair-lower A B i from w v x y p u h e hl hi hv hw = record {
+    upper = λ t ht. entry-other d B (i + 1) (from + v) i (from + t) u (λ q. omega arith) hv (omega arith) ∙ h .upper t ht;
+    lower = λ t ht.
+        ⊎-elim
+        (λ (q : t ≡ v). rw q (entry-same d B (i + 1) (from + v) u hl hi hv ∙ e ∙ ap (λ (z : Float). taken z y (packed p v)) (h .rest (i + 1) (from + v) (λ q. omega arith) (λ q. omega arith) hv)))
+        (λ (b : t < v). entry-other d B (i + 1) (from + v) (i + 1) (from + t) u (λ q. omega arith) hv (omega arith) ∙ h .lower t b)
+        (eq-or-lt-of-le {n = t} {m = v} (omega arith));
+    rest = λ m c f g hc. entry-other d B (i + 1) (from + v) m c u (λ q. g (q .0, omega arith, omega arith)) hv hc ∙ h .rest m c f (λ q. g (q .0, q .1, omega arith)) hc;
+  }
+
+  pub pair-more : (A B : List Float) (i from n : ℕ) (x y : Four) (p : List Float) (u v : Float) → PairUpdated d A B i from n n x y p → u ≡ taken (getD B (i * d + (from + n)) nan) x (packed p n) → v ≡ taken (getD B ((i + 1) * d + (from + n)) nan) y (packed p n) → length B ≡ d * d → i + 1 < d → from + n < d → PairUpdated d A (set (set B (i * d + (from + n)) u) ((i + 1) * d + (from + n)) v) i from (n + 1) (n + 1) x y p
+  pair-more A B i from n x y p u v h e f hl hi hn =
+      let C = set B (i * d + (from + n)) u in
+      let o : entry d C (i + 1) (from + n) ≡ entry d B (i + 1) (from + n) = entry-other d B i (from + n) (i + 1) (from + n) u (λ q. omega arith) hn hn in
+      pair-lower A C i from (n + 1) n x y p v (pair-upper A B i from n n x y p u h e hl (omega arith) hn (omega arith)) (rw o f) (length-set B (i * d + (from + n)) u ∙ hl) hi hn (omega arith)
+
+  pub pair-cells : (A B C D : List Float) (i from n : ℕ) (x y : Four) (p : List Float) → PairUpdated d A B i from n n x y p → C ≡ set B (i * d + (from + n)) (taken (entry d B i (from + n)) x (packed p n)) → D ≡ set C ((i + 1) * d + (from + n)) (taken (entry d C (i + 1) (from + n)) y (packed p n)) → length B ≡ d * d → length C ≡ d * d → i + 1 < d → from + n < d → PairUpdated d A D i from (n + 1) (n + 1) x y p
+  pair-cells A B C D i from n x y p h e f hb hc hi hn =
+      let z : PairUpdated d A C i from (n + 1) n x y p = rw e (pair-upper A B i from n n x y p _ h refl hb (omega arith) hn (omega arith)) in
+      rw f (pair-lower A C i from (n + 1) n x y p _ z refl hc hi hn (omega arith))
+
   -- ---- the rows before i
 
-  pub rows-none : (A : List Float) (j from n : ℕ) (p : List Float) → RowsUpdated d A A j from n from p
-  rows-none A j from n p = record { cells = λ m t h k l. absurd (omega arith); rest = λ m c h k. refl }
+  pub rows-none : (A : List Float) (j from n i : ℕ) (p : List Float) → i ≤ from → RowsUpdated d A A j from n i p
+  rows-none A j from n i p hi = record { cells = λ m t h k l. absurd (omega arith); rest = λ m c h k. refl }
 
   pub rows-more : (A B C : List Float) (j from n i w : ℕ) (x : Four) (p : List Float) → RowsUpdated d A B j from n i p → Stands d B i j x → w ≡ min n (i + 1 - from) → RowUpdated d B C i from w x p → j + 4 ≤ from → from ≤ i → i < d → from + n ≤ d → RowsUpdated d A C j from n (i + 1) p
   rows-more A B C j from n i w x p h e ew u hj hf hi hn =
@@ -85,6 +123,22 @@ module _ (d : ℕ) where
             (λ (b : m < i). u .rest m (from + t) (λ q. omega arith) (omega arith) ∙ h .cells m t ht hm b)
             (eq-or-lt-of-le {n = m} {m = i} (omega arith));
         rest = λ m c g hc. u .rest m c (λ q. g (q .1, omega arith, omega arith, omega arith)) hc ∙ h .rest m c (λ q. g (q .0, q .1, q .2, omega arith)) hc;
+      }
+
+  pub rows-two : (A B C : List Float) (j from n i w v : ℕ) (x y : Four) (p : List Float) → RowsUpdated d A B j from n i p → Stands d B i j x → Stands d B (i + 1) j y → w ≡ min n (i + 1 - from) → v ≡ min n (i + 2 - from) → PairUpdated d B C i from w v x y p → j + 4 ≤ from → from ≤ i → i + 1 < d → from + n ≤ d → RowsUpdated d A C j from n (i + 2) p
+  rows-two A B C j from n i w v x y p h e f ew ev u hj hf hi hn =
+      let o : (m c : ℕ) → i ≤ m → c < d → entry d B m c ≡ entry d A m c = λ m c l k. h .rest m c (λ q. omega arith) k in
+      record {
+        cells = λ m t ht hm hl.
+            ⊎-elim
+            (λ (q : m ≡ i + 1). rw q (u .lower t (omega arith) ∙ rw (f .0 ∙ o (i + 1) j (omega arith) (omega arith), f .1 ∙ o (i + 1) (j + 1) (omega arith) (omega arith), f .2 ∙ o (i + 1) (j + 2) (omega arith) (omega arith), f .3 ∙ o (i + 1) (j + 3) (omega arith) (omega arith), o (i + 1) (from + t) (omega arith) (omega arith))))
+            (λ (b : m < i + 1).
+            ⊎-elim
+            (λ (q : m ≡ i). rw q (u .upper t (omega arith) ∙ rw (e .0 ∙ o i j (omega arith) (omega arith), e .1 ∙ o i (j + 1) (omega arith) (omega arith), e .2 ∙ o i (j + 2) (omega arith) (omega arith), e .3 ∙ o i (j + 3) (omega arith) (omega arith), o i (from + t) (omega arith) (omega arith))))
+            (λ (b : m < i). u .rest m (from + t) (λ q. omega arith) (λ q. omega arith) (omega arith) ∙ h .cells m t ht hm b)
+            (eq-or-lt-of-le {n = m} {m = i} (omega arith)))
+            (eq-or-lt-of-le {n = m} {m = i + 1} (omega arith));
+        rest = λ m c g hc. u .rest m c (λ q. g (q .1, omega arith, omega arith, omega arith)) (λ q. g (q .1, omega arith, omega arith, omega arith)) hc ∙ h .rest m c (λ q. g (q .0, q .1, q .2, omega arith)) hc;
       }
 
   -- ---- the columns before k

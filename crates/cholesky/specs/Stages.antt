@@ -73,6 +73,12 @@ module _ (d : ℕ) where
     pub cells : (t : ℕ) → t < n → entry d B i (from + t) ≡ taken (entry d A i (from + t)) x (packed p t)
     pub rest : Elsewhere (λ (m c : ℕ). (m ≡ i) × (from ≤ c) × (c < from + n)) A B
 
+  -- w entries of row i and v of row i + 1: x and y are the rows' fours
+  pub record PairUpdated (A B : List Float) (i from w v : ℕ) (x y : Four) (p : List Float) : Type 0 where
+    pub upper : (t : ℕ) → t < w → entry d B i (from + t) ≡ taken (entry d A i (from + t)) x (packed p t)
+    pub lower : (t : ℕ) → t < v → entry d B (i + 1) (from + t) ≡ taken (entry d A (i + 1) (from + t)) y (packed p t)
+    pub rest : (m c : ℕ) → ((m ≡ i) × (from ≤ c) × (c < from + w) → ⊥) → ((m ≡ i + 1) × (from ≤ c) × (c < from + v) → ⊥) → c < d → entry d B m c ≡ entry d A m c
+
   -- n columns of the rows before i, in the lower triangle
   pub record RowsUpdated (A B : List Float) (j from n i : ℕ) (p : List Float) : Type 0 where
     pub cells : (m t : ℕ) → t < n → from + t ≤ m → m < i → entry d B m (from + t) ≡ taken (entry d A m (from + t)) (four A m j) (packed p t)

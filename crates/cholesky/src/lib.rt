@@ -7,11 +7,11 @@ use sqrt::sqrt;
 ghost use mathlib.Core.Path.{_≡_};
 ghost use mathlib.Core.List.{List};
 ghost use Prim.Native.Nat.{_+_, _*_, _<_, _≤_, min};
-ghost use lib.ListN.{length, take};
+ghost use lib.ListN.{length, set, take};
 ghost use lib.Ieee.{Float};
 ghost use Rattle.field.specs.Buffer.{load, store, vector};
 ghost use Rattle.cholesky.specs.Cholesky.{ended, entry as entryOf, factorEntry, pivot as pivotOf, factor as factorOf, forwardVector, forward as forwardOf, backVector, backRow, back as backOf, finite3 as finiteVector, Substituted};
-ghost use Rattle.cholesky.specs.Stages.{finite4 as finiteFour, taken, packed, slots, Stands, stored, Solves, Packed, RowUpdated, RowsUpdated, Updated, reduced, Continues, RowReady, RowEnds, RowsReady, RowsEnd, PanelReady, PanelEnds, Beside};
+ghost use Rattle.cholesky.specs.Stages.{finite4 as finiteFour, taken, packed, slots, Stands, stored, Solves, Packed, RowUpdated, PairUpdated, RowsUpdated, Updated, reduced, Continues, RowReady, RowEnds, RowsReady, RowsEnd, PanelReady, PanelEnds, Beside};
 
 // How a factor or a substitution ends: done, or stopped by document 01's refusal `number` at the row `row`.
 pub enum Solve {
@@ -238,17 +238,103 @@ fn lesser(x: usize, y: usize) -> usize
     y
 }
 
-// The same in the lower triangle's rows from `from` on.
+// Four products taken off each of 2h entries of the rows i and i + 1: x and y are the rows', p the packed columns'. The number is even so that two entries at a time leave no rest.
+fn update_pair(
+    a: &mut [f64],
+    p: &[f64],
+    d: usize,
+    i: usize,
+    from: usize,
+    h: usize,
+    x: Four,
+    y: Four,
+)
+    requires { ⌜ (length (now a) ≡ d * d) × (length (now p) ≡ 1024) × (i + 1 < d) × (from + 2 * h ≤ d) × (2 * h ≤ 256) ⌝ }
+    ensures { λ r. ⌜ PairUpdated d (now (a .entry)) (now (a .exit)) i from (2 * h) (2 * h) x y (now (p .entry)) ⌝ }
+{
+    let n = 2 * h;
+    let mut t = 0usize;
+    while t < n {
+        let q = i * d + (from + t);
+        let r = (i + 1) * d + (from + t);
+        let u = take_four(a[q], x, p, t);
+        let v = take_four(a[r], y, p, t);
+        a[q] = u;
+        a[r] = v;
+        t += 1;
+    }
+}
+
+// Four products taken off one entry of row i.
+fn update_cell(a: &mut [f64], p: &[f64], d: usize, i: usize, from: usize, t: usize, x: Four)
+    requires { ⌜ (length (now a) ≡ d * d) × (length (now p) ≡ 1024) × (i < d) × (from + t < d) × (t < 256) ⌝ }
+    ensures { λ r. ⌜ now (a .exit) ≡ set (now (a .entry)) (i * d + (from + t)) (taken (entryOf d (now (a .entry)) i (from + t)) x (packed (now (p .entry)) t)) ⌝ }
+{
+    let q = i * d + (from + t);
+    a[q] = take_four(a[q], x, p, t);
+}
+
+// The same for w entries.
+fn update_common(
+    a: &mut [f64],
+    p: &[f64],
+    d: usize,
+    i: usize,
+    from: usize,
+    w: usize,
+    x: Four,
+    y: Four,
+)
+    requires { ⌜ (length (now a) ≡ d * d) × (length (now p) ≡ 1024) × (i + 1 < d) × (from + w ≤ d) × (w ≤ 256) ⌝ }
+    ensures { λ r. ⌜ PairUpdated d (now (a .entry)) (now (a .exit)) i from w w x y (now (p .entry)) ⌝ }
+{
+    update_pair(a, p, d, i, from, w / 2, x, y);
+    if w % 2 == 1 {
+        update_cell(a, p, d, i, from, w - 1, x);
+        update_cell(a, p, d, i + 1, from, w - 1, y);
+    }
+}
+
+// The lower triangle's row i, where the rows before it are done. Here and in the next function s is the matrix before the first of them.
+fn update_one(a: &mut [f64], p: &[f64], d: usize, j: usize, from: usize, n: usize, i: usize)
+    requires { ⌜ (length (now a) ≡ d * d) × (length (now p) ≡ 1024) × (j + 4 ≤ from) × (from ≤ i) × (i < d) × (from + n ≤ d) × (n ≤ 256) ⌝ }
+    ensures { λ r. ⌜ ((s : List Float) → RowsUpdated d s (now (a .entry)) j from n i (now (p .entry)) → RowsUpdated d s (now (a .exit)) j from n (i + 1) (now (p .entry))) ⌝ }
+{
+    let x = get_four(a, d, i, j);
+    let w = lesser(n, i + 1 - from);
+    update_row(a, p, d, i, from, w, x);
+}
+
+// The rows i and i + 1: what they have in common, and the second row's diagonal.
+fn update_two(a: &mut [f64], p: &[f64], d: usize, j: usize, from: usize, n: usize, i: usize)
+    requires { ⌜ (length (now a) ≡ d * d) × (length (now p) ≡ 1024) × (j + 4 ≤ from) × (from ≤ i) × (i + 1 < d) × (from + n ≤ d) × (n ≤ 256) ⌝ }
+    ensures { λ r. ⌜ ((s : List Float) → RowsUpdated d s (now (a .entry)) j from n i (now (p .entry)) → RowsUpdated d s (now (a .exit)) j from n (i + 2) (now (p .entry))) ⌝ }
+{
+    let x = get_four(a, d, i, j);
+    let y = get_four(a, d, i + 1, j);
+    let w = lesser(n, i + 1 - from);
+    update_common(a, p, d, i, from, w, x, y);
+    if w < n {
+        update_cell(a, p, d, i + 1, from, w, y);
+    }
+}
+
+// The lower triangle's rows from `from` on: the first, and then two at a time, which so have an even number of entries in common.
 fn update_rows(a: &mut [f64], p: &[f64], d: usize, j: usize, from: usize, n: usize, rows: usize)
     requires { ⌜ (length (now a) ≡ d * d) × (length (now p) ≡ 1024) × (j + 4 ≤ from) × (from + n ≤ rows) × (rows ≤ d) × (n ≤ 256) ⌝ }
     ensures { λ r. ⌜ RowsUpdated d (now (a .entry)) (now (a .exit)) j from n rows (now (p .entry)) ⌝ }
 {
-    let mut i = from;
-    while i < rows {
-        let x = get_four(a, d, i, j);
-        let w = lesser(n, i + 1 - from);
-        update_row(a, p, d, i, from, w, x);
-        i += 1;
+    if rows <= from {
+        return;
+    }
+    update_one(a, p, d, j, from, n, from);
+    let mut i = from + 1;
+    while 2 <= rows - i {
+        update_two(a, p, d, j, from, n, i);
+        i += 2;
+    }
+    if i < rows {
+        update_one(a, p, d, j, from, n, i);
     }
 }
 
