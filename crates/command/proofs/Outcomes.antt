@@ -10,7 +10,8 @@ use borrow.Author.Tests.{lt-ltb, le-ltb}
 use Rattle.network.specs.declared.Refusal.{Refusal}
 use Rattle.network.specs.declared.Verdict.{Verdict}
 use Rattle.network.specs.declared.Verdict.the-variants as tested
-use Rattle.network.specs.Network.{Shape, shape, Network, rows}
+use Rattle.network.specs.Network.{shape, Network, rows}
+use Rattle.network.specs.declared.Shape.{Shape}
 use Rattle.network.specs.Refusals.{refuse, test, andThen, verdict, countTests}
 use Rattle.network.proofs.Verdicts.{verdict-append, verdict-one, passed-first, refused-first, refused-passed, then-passed}
 use Rattle.lists.specs.Listed.{Listed}

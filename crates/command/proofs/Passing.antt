@@ -13,7 +13,8 @@ use Rattle.field.specs.Count.{lowest}
 use Rattle.field.proofs.Counting.{lowest-none}
 use Rattle.network.specs.declared.Verdict.{Verdict}
 use Rattle.network.specs.declared.Verdict.the-variants.{Passed}
-use Rattle.network.specs.Network.{Shape, rows}
+use Rattle.network.specs.Network.{rows}
+use Rattle.network.specs.declared.Shape.{Shape}
 use Rattle.network.specs.Refusals.{test, testAt, andThen, verdict, running, countTests, endsFit, raysFit, pointsFit, networkFits, endTests, badWeight, badRoute, denseRows, workLength, graphTests, stepTests}
 use Rattle.network.specs.Sound.{EndsSound}
 use Rattle.network.proofs.Verdicts.{both-true, then-passed, passed-first, test-at-passed, graph-verdict, step-verdict, solve-verdict}

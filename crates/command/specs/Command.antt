@@ -8,7 +8,8 @@ use lib.Dec.{ltb}
 use Rattle.network.specs.declared.Refusal.{Refusal}
 use Rattle.network.specs.declared.Verdict.{Verdict}
 use Rattle.network.specs.declared.Verdict.the-variants as tested
-use Rattle.network.specs.Network.{Shape, Graph, graph, Network, network}
+use Rattle.network.specs.Network.{Graph, graph, Network, network}
+use Rattle.network.specs.declared.Shape.{Shape}
 use Rattle.network.specs.Lists.{listsHold}
 use Rattle.network.specs.Refusals.{test, verdict}
 use Rattle.graph.specs.Outcome.{Labelled}

@@ -1,4 +1,4 @@
--- What a finite result says of the operands, and sums out of which no NaN comes. Assumes nothing.
+-- What a finite result says of the operands, what a running sum keeps, and numbers that are neither NaN nor of negative sign. Assumes nothing.
 use mathlib.Core.Path.{_≡_, refl, sym, ap, _∙_}
 use mathlib.Core.Bool.{Bool, true, false, not, cond, true≢false, false≢true}
 use mathlib.Core.Logic.{⊎-elim}
@@ -56,22 +56,6 @@ finite-mul f (fin s m k) nan e = absurd (false≢true e)
 finite-mul f (fin s m k) (inf t) e = absurd (wild-cond (eqb m 0) (unlike s t) e)
 finite-mul f (fin s m k) (fin t n d) e = (refl, refl)
 
--- ---- a running sum that ends finite had only finite terms and finite sums on the way
-
-module _ (f : Format) (g : ℕ → Float) (z : Float) where
-  pub finite-sums : (n : ℕ) → finite (total f g z n) ≡ true → (k : ℕ) → k ≤ n → finite (total f g z k) ≡ true
-  unfolding total
-  finite-sums zero e k h = rw (let q : k ≡ 0 = omega arith in q) e
-  finite-sums (suc n) e k h =
-      ⊎-elim
-      (λ (q : k ≡ suc n). rw q e)
-      (λ (l : k < suc n). finite-sums n (finite-add f (total f g z n) (g n) e .0) k (le-of-suc-le-suc l))
-      (eq-or-lt-of-le h)
-
-  pub finite-terms : (n : ℕ) → finite (total f g z n) ≡ true → (k : ℕ) → k < n → finite (g k) ≡ true
-  unfolding total
-  finite-terms n e k h = finite-add f (total f g z k) (g k) (finite-sums n e (suc k) h) .1
-
 -- ---- what an addition keeps, a running sum keeps
 pub total-keeps : (P : Float → Bool) (f : Format) (g : ℕ → Float) (z : Float) (n : ℕ) → ((x y : Float) → P x ≡ true → P y ≡ true → P (add f x y) ≡ true)
     → P z ≡ true → ((k : ℕ) → k < n → P (g k) ≡ true) → P (total f g z n) ≡ true
@@ -98,7 +82,7 @@ unfolding odd
 unsigned-odd d zero k l = refl
 unsigned-odd d (suc q) k l = refl
 
-unsigned-units : (f : Format) (q k : ℕ) → unsigned (units f false q k) ≡ true
+pub unsigned-units : (f : Format) (q k : ℕ) → unsigned (units f false q k) ≡ true
 unfolding units
 unsigned-units f q k = go (ltb (q * 2 ^ k) (2 ^ (low f + suc (emax f))))
   where
@@ -132,14 +116,6 @@ unsigned-square f (inf true) h = refl
 unsigned-square f (inf false) h = refl
 unsigned-square f (fin true m e) h = unsigned-round f (m * up e * (m * up e)) (down e * down e)
 unsigned-square f (fin false m e) h = unsigned-round f (m * up e * (m * up e)) (down e * down e)
-
-pub unsigned-total : (f : Format) (g : ℕ → Float) (z : Float) (n : ℕ) → unsigned z ≡ true → ((k : ℕ) → k < n → unsigned (g k) ≡ true) → unsigned (total f g z n) ≡ true
-unsigned-total f g z n h k = total-keeps unsigned f g z n (unsigned-add f) h k
-
--- a sum of squares is a NaN only if a term is
-pub squares-no-nan : (f : Format) (g : ℕ → Float) (z : Float) (n : ℕ) → unsigned z ≡ true → ((k : ℕ) → k < n → isNan (g k) ≡ false) → isNan (total f (λ k. mul f (g k) (g k)) z n) ≡ false
-squares-no-nan f g z n h k =
-    unsigned-no-nan (total f (λ k. mul f (g k) (g k)) z n) (unsigned-total f (λ k. mul f (g k) (g k)) z n h (λ j l. unsigned-square f (g j) (k j l)))
 
 -- ---- a number less itself
 

@@ -1,3 +1,4 @@
 pub mod Vectors
 pub mod Counting
 pub mod Buffers
+pub mod Fills

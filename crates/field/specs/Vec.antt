@@ -1,6 +1,11 @@
 -- Three doubles as one value. An operation acts on each coordinate alike and rounds once there.
 -- (Document 01, 'Arithmetic of the step': 'Each operation rounds once'.)
+use Prim.Native.Nat.{ℕ}
+use mathlib.Core.Bool.{Bool, _&&_}
+use mathlib.Core.List.{List}
+use lib.ListN.{getD}
 use lib.Ieee.{Float, binary64, add, sub, mul, div, ofBits}
+use lib.Ieee.Scale.{finite}
 use Rattle.field.specs.declared.Vec3.{Vec3}
 
 pub data Axis : Type 0 where
@@ -22,6 +27,13 @@ null = ofBits binary64 0
 
 abbrev pub origin : Vec3
 origin = each (λ k. null)
+
+-- the vector at place i of a field, a list of vectors
+abbrev pub at : List Vec3 → ℕ → Vec3
+at f i = getD f i origin
+
+unfoldable pub isFinite : Vec3 → Bool
+isFinite v = finite (v .x) && (finite (v .y) && finite (v .z))
 
 unfoldable pub plus : Vec3 → Vec3 → Vec3
 plus a b = each (λ k. add binary64 (on k a) (on k b))

@@ -1,9 +1,11 @@
 // Vectors of three doubles, and how they lie in a lent buffer.
 ghost use mathlib.Core.Path.{_≡_};
+ghost use mathlib.Core.Bool.{cond};
 ghost use mathlib.Core.List.{_++_};
 ghost use Prim.Native.Nat.{_+_, _*_, _≤_};
+ghost use lib.Dec.{eqb};
 ghost use lib.ListN.{length, drop, replicate};
-ghost use Rattle.field.specs.Vec.{null, plus, minus, scale, over, dot as product};
+ghost use Rattle.field.specs.Vec.{null, origin, plus, minus, scale, over, dot as product};
 ghost use Rattle.field.specs.Buffer.{get, put, load, store, vector};
 
 pub struct Vec3 {
@@ -64,6 +66,23 @@ impl Vec3 {
     {
         self.x * other.x + self.y * other.y + self.z * other.z
     }
+}
+
+pub fn zero() -> Vec3
+    ensures { λ r. ⌜ r ≡ origin ⌝ }
+{
+    Vec3 {
+        x: 0.0,
+        y: 0.0,
+        z: 0.0,
+    }
+}
+
+// u at the anchor, v at any other camera i.
+pub fn anchored(i: usize, anchor: usize, u: Vec3, v: Vec3) -> Vec3
+    ensures { λ r. ⌜ r ≡ cond (eqb i anchor) u v ⌝ }
+{
+    if i == anchor { u } else { v }
 }
 
 // The vector that stands at p.

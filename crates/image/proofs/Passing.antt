@@ -19,7 +19,8 @@ use Rattle.field.proofs.Buffers.{get-vector}
 use Rattle.network.specs.declared.Verdict.{Verdict}
 use Rattle.network.specs.declared.Verdict.the-variants.{Refused, Passed}
 use Rattle.network.specs.declared.Refusal.{Refusal}
-use Rattle.network.specs.Network.{Shape, shape, rows}
+use Rattle.network.specs.Network.{shape, rows}
+use Rattle.network.specs.declared.Shape.{Shape}
 use Rattle.network.specs.Refusals.{test, testAt, andThen, verdict, section, running, countTests, endsFit, raysFit, badVector}
 use Rattle.network.specs.Sound.{ShapeSound}
 use Rattle.network.proofs.Verdicts.{verdict-append, verdict-one, then-assoc, then-passed, test-passed, test-at-passed, both-true}

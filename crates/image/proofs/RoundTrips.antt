@@ -11,7 +11,8 @@ use lib.Ieee.{Float, nan, inf, fin, isNan}
 use lib.Ieee.Scale.{finite}
 use Rattle.field.specs.Buffer.{part}
 use Rattle.field.proofs.Counting.{field-ext, field-getD}
-use Rattle.network.specs.Network.{Shape, shape, rows}
+use Rattle.network.specs.Network.{shape, rows}
+use Rattle.network.specs.declared.Shape.{Shape}
 use Rattle.network.specs.Sound.{ShapeSound}
 use Rattle.layout.specs.Bytes.{AreBytes, AreDoubles, bytesOf, u32At, doubleBytes, run, wholes, doubles}
 use Rattle.layout.specs.Image.{Content, Lengths, countBytes, rowBytes, rowOf, sections, assembled, image}

@@ -14,7 +14,8 @@ use Rattle.field.specs.Count.{lowest}
 use Rattle.field.proofs.Counting.{lowest-none}
 use Rattle.network.specs.declared.Verdict.{Verdict}
 use Rattle.network.specs.declared.Verdict.the-variants.{Refused, Passed}
-use Rattle.network.specs.Network.{Shape, shape, rows, graph}
+use Rattle.network.specs.Network.{shape, rows, graph}
+use Rattle.network.specs.declared.Shape.{Shape}
 use Rattle.network.specs.Sound.{ShapeSound, EndsSound}
 use Rattle.network.specs.Refusals.{test, testAt, andThen, verdict, endsFit, raysFit}
 use Rattle.network.proofs.Verdicts.{verdict-append, then-passed, passed-first, both-true}

@@ -5,7 +5,7 @@ use mathlib.Core.List.{List, _++_}
 use lib.ListN.{length, drop}
 use Rattle.network.specs.declared.Verdict.{Verdict}
 use Rattle.network.specs.declared.Verdict.the-variants.{Refused, Passed}
-use Rattle.network.specs.Network.{Shape}
+use Rattle.network.specs.declared.Shape.{Shape}
 use Rattle.network.specs.Refusals.{verdict}
 use Rattle.image.specs.declared.Sizes.{Sizes}
 use Rattle.image.specs.declared.Counted.{Counted}

@@ -7,7 +7,8 @@ use lib.ListN.{length}
 use lib.Ieee.{Float}
 use lib.Ieee.Scale.{finite}
 use Rattle.field.specs.Count.{field}
-use Rattle.network.specs.Network.{Shape, shape, rows}
+use Rattle.network.specs.Network.{shape, rows}
+use Rattle.network.specs.declared.Shape.{Shape}
 use Rattle.layout.specs.Bytes.{u32At, doubleAt}
 use Rattle.layout.specs.Image.{Content, content, headSize}
 

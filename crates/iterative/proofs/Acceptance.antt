@@ -14,15 +14,13 @@ use Rattle.field.specs.declared.Vec3.{Vec3}
 use Rattle.field.specs.declared.Place.{Place}
 use Rattle.field.specs.declared.Place.the-variants.{At, Nowhere}
 use Rattle.field.specs.Vec.{Axis, X, Y, Z, on, null, origin, minus}
-use Rattle.field.specs.Count.{lowest}
 use Rattle.field.proofs.Vectors.{on-minus, on-origin}
-use Rattle.field.proofs.Counting.{length-field, getD-field, none-of, found}
+use Rattle.field.proofs.Counting.{length-field, getD-field, none-of}
 use Rattle.double.proofs.Finite.{finite-sub, finite-no-nan}
 use Rattle.double.proofs.Order.{le-of-not-lt}
 use Rattle.network.specs.Network.{Network}
 use Rattle.network.specs.Sound.{NetworkSound}
-use Rattle.system.specs.declared.CameraTerm.{CameraTerm}
-use Rattle.system.specs.System.{terms, greatest, orZero, anchorOf, anchor}
+use Rattle.system.specs.System.{terms, anchor}
 use Rattle.operator.specs.Operator.{at}
 use Rattle.operator.proofs.OperatorLaws.{reduced-finite}
 use Rattle.iterative.specs.Problem.{Problem, Faithful, Sound, mostRounds}

@@ -15,7 +15,7 @@ use Rattle.network.specs.Lists.{none}
 use Rattle.system.specs.System.{effective, pull, pointWeight, pullSum, meanOf, meanOffset, sees, departs, arrives, assembleRow, terms, greatest, anchorOf, addBearing, addDirection}
 use Rattle.iterative.specs.Problem.{times, dotStep, fieldDot, mostRounds}
 use Rattle.iterative.specs.Method.{State, ended, failed, boundOf, allowedOf, opening, remaining, flatAt, brokenAt, unfitAt, quotient, stepped, renewed, zeros, preconditioned, advanced, searching, difference, squareSum, start, badDiagonal, moved, turned, round, rounds, residualOf, solution}
-use Rattle.operator.specs.Operator.{changed, meanAt, ridged, bearingStep, pointStep, directionStep, reduced}
+use Rattle.operator.specs.Operator.{changed, times as repeated, ridged, bearingStep, spanPass, pointStep, directionStep, reducedBy}
 use Rattle.iterative.specs.Reduced.{diagonalOf, rightOf, problem}
 use Rattle.iterative.specs.Edges.{whole, overflowing, tied}
 
@@ -25,7 +25,7 @@ unfolding upto field lowest get none total isNan greater magnitude root ofBits a
     effective pull pointWeight pullSum meanOf meanOffset sees departs arrives addBearing addDirection assembleRow terms greatest anchorOf
     times dotStep fieldDot mostRounds boundOf allowedOf opening remaining flatAt brokenAt unfitAt quotient stepped renewed
     zeros preconditioned advanced searching difference squareSum start badDiagonal moved turned round rounds residualOf solution
-    changed meanAt ridged bearingStep pointStep directionStep reduced diagonalOf rightOf problem
+    changed repeated ridged bearingStep spanPass pointStep directionStep reducedBy diagonalOf rightOf problem
 computing = tt
 
 -- a state in which every component is done

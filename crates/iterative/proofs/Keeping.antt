@@ -11,10 +11,11 @@ use Rattle.network.specs.Network.{Network}
 use Rattle.system.specs.System.{anchor, terms}
 use Rattle.system.specs.Work.{rightAt}
 use Rattle.operator.proofs.Outside.{outside-same, outside-store, outside-then, posed-outside}
-use Rattle.operator.specs.Operator.{reduced}
-use Rattle.operator.specs.Posed.{camerasOf}
+use Rattle.operator.proofs.Standing.{reduced-held, weights-kept}
+use Rattle.operator.specs.Operator.{Links, linksOf, reduced, reducedBy}
+use Rattle.operator.specs.Posed.{camerasOf, weightsIn}
 use Rattle.iterative.specs.Reduced.{diagonalOf, problem}
-use Rattle.iterative.specs.Solver.{Kept, Started, held}
+use Rattle.iterative.specs.Solver.{Kept, Started, held, standing}
 
 pub kept-same : (n : ℕ) (l : List Float) → Kept n l l
 kept-same n l = record { outside = outside-same n l; right = refl }
@@ -48,3 +49,14 @@ pub held-problem : (net : Network) (a : ℕ) (l : List Float) → Started net a 
 unfolding problem
 held-problem net a l S =
     λ i. record { cameras = net .graph .shape .cameras; anchor = S .anchor i; diagonal = diagonalOf (S .posed .segments .terms i); right = S .right i; operator = reduced net (S .anchor i) }
+
+-- ---- the system that stands in the buffer, with its operator
+
+pub standing-kept : (L : Links) (a : ℕ) (l w : List Float) → Kept (L .shape .cameras) l w → standing L a w ≡ standing L a l
+standing-kept L a l w K =
+    held-kept (L .shape .cameras) a l w (reducedBy L (weightsIn (L .shape) w) a) K
+    ∙ (λ i. held (L .shape .cameras) a l (reducedBy L (weights-kept (L .shape) l w (K .outside .rest) i) a))
+
+pub standing-problem : (net : Network) (a : ℕ) (l : List Float) → Started net a l → standing (linksOf net) a l ≡ problem net
+standing-problem net a l S =
+    (λ i. held (camerasOf net) a l (λ x. reduced-held net l (S .posed .sound) (S .posed .segments) a x i)) ∙ held-problem net a l S

@@ -1,9 +1,9 @@
 -- The rounds one after another, and then the start and the end of the solve, from what the calls ensure. Assumes nothing.
-use mathlib.Core.Path.{ap, refl, sym, _∙_, _≡_}
+use mathlib.Core.Path.{ap, refl, subst, sym, _∙_, _≡_}
 use mathlib.Core.Logic.{inl, inr}
 use mathlib.Core.List.{List}
 use mathlib.Core.Bool.{Bool, false, true}
-use Prim.Native.Nat.{ℕ, _*_, _+_, _-_, _<_, _≤_}
+use Prim.Native.Nat.{ℕ, _+_, _-_, _<_, _≤_}
 use native.Mathlib.Numerals.{add-one}
 use native.Mathlib.Omega.{arith}
 use lib.ListN.{length}
@@ -16,17 +16,18 @@ use Rattle.field.specs.declared.Place.the-variants.{At, Nowhere}
 use Rattle.field.specs.declared.Vec3.{Vec3}
 use Rattle.network.specs.Network.{Network}
 use Rattle.system.specs.System.{anchor}
-use Rattle.system.specs.Work.{appliedAt, positionsAt, residualAt, rightAt, searchAt, term}
+use Rattle.system.specs.Work.{appliedAt, positionsAt, residualAt, rightAt, searchAt, term, matrixAt}
 use Rattle.operator.proofs.Outside.{outside-store, outside-then, posed-outside}
-use Rattle.operator.proofs.OperatorLaws.{reduced-length}
-use Rattle.operator.specs.Operator.{at, reduced}
-use Rattle.operator.specs.Posed.{Posed, camerasOf}
+use Rattle.operator.proofs.OperatorLaws.{by-length}
+use Rattle.network.specs.declared.Shape.{Shape}
+use Rattle.operator.specs.Operator.{Links, at, links, linksOf, reducedBy}
+use Rattle.operator.specs.Posed.{Posed, camerasOf, reducedIn, weightsIn}
 use Rattle.iterative.proofs.Fills.{difference-fill, preconditioned-fill, right-fill, zeros-fill}
-use Rattle.iterative.proofs.Keeping.{kept-store, kept-then, other-field, own-field}
-use Rattle.iterative.specs.Method.{Run, State, allowed, any, badDiagonal, brokenAt, closed, component, difference, ended, failed, flatAt, going, inner, moved, next, onward, opened, precondition, preconditioned, residualOf, round, rounds, solution, squareSum, start, turned, unfitAt, unless, zeros}
+use Rattle.iterative.proofs.Keeping.{kept-store, kept-then, other-field, own-field, standing-kept, standing-problem, started-kept}
+use Rattle.iterative.specs.Method.{Run, State, allowed, any, badDiagonal, brokenAt, closed, component, difference, ended, failed, flatAt, going, inner, moved, next, onward, opened, precondition, preconditioned, residualOf, round, rounds, solution, squareSum, start, turned, unfitAt, unless, zeros, allowedOf}
 use Rattle.iterative.specs.Problem.{Problem, fieldDot, mostRounds}
 use Rattle.iterative.specs.Reduced.{diagonalOf, problem, rightOf}
-use Rattle.iterative.specs.Solver.{Concluded, Iterated, Kept, Opened, Roomy, Rounded, Settled, Solved, Started, Summed, answerOf, begun, diagonalNumber, firstOf, runOf, stateOf}
+use Rattle.iterative.specs.Solver.{Concluded, Iterated, Kept, Opened, Roomy, Rounded, Settled, Solved, Started, Summed, answerOf, begun, diagonalNumber, firstOf, runOf, stateOf, standing, Tested}
 use Rattle.iterative.specs.declared.Outcome.{Outcome}
 use Rattle.iterative.specs.declared.Outcome.the-variants.{Failed as Refused}
 use Rattle.iterative.specs.declared.Round.{Round}
@@ -83,26 +84,29 @@ module _ (P : Problem) where
 
 -- ---- the loop over the rounds: r is the record after k of them, and x what the next one answers
 
-module _ (net : Network) (l l1 l2 : List Float) (first r : Round) (k : ℕ) (x : Step)
-    (h : upto (λ (_ : ℕ). next (problem net)) k (going (stateOf (camerasOf net) l first)) ≡ going (stateOf (camerasOf net) l1 r))
-    (K : Kept (camerasOf net) l l1) (D : Rounded net r l1 l2 x) where
-  pub iterated-kept : Kept (camerasOf net) l l2
+module _ (L : Links) (a : ℕ) (l l1 l2 : List Float) (first r : Round) (k : ℕ) (x : Step)
+    (h : upto (λ (_ : ℕ). next (standing L a l)) k (going (stateOf (L .shape .cameras) l first)) ≡ going (stateOf (L .shape .cameras) l1 r))
+    (K : Kept (L .shape .cameras) l l1) (D0 : Rounded (standing L a l1) r l1 l2 x) where
+  D : Rounded (standing L a l) r l1 l2 x
+  D = subst (λ (Q : Problem). Rounded Q r l1 l2 x) (standing-kept L a l l1 K) D0
+
+  pub iterated-kept : Kept (L .shape .cameras) l l2
   iterated-kept = kept-then K (D .kept)
 
-  again : (y : Step) → x ≡ y → runOf (camerasOf net) l2 y ≡ round (problem net) (stateOf (camerasOf net) l1 r)
+  again : (y : Step) → x ≡ y → runOf (L .shape .cameras) l2 y ≡ round (standing L a l) (stateOf (L .shape .cameras) l1 r)
   again y e = rw e at (D .run)
 
-  pub iterated-over : (y : Step) → x ≡ y → next (problem net) (runOf (camerasOf net) l2 y) ≡ runOf (camerasOf net) l2 y → k < mostRounds (camerasOf net) → Iterated net (going (stateOf (camerasOf net) l first)) l l2 y
+  pub iterated-over : (y : Step) → x ≡ y → next (standing L a l) (runOf (L .shape .cameras) l2 y) ≡ runOf (L .shape .cameras) l2 y → k < mostRounds (L .shape .cameras) → Iterated (standing L a l) (going (stateOf (L .shape .cameras) l first)) l l2 y
   iterated-over y e f g = record {
-    run = sym (stays (problem net) (k + 1) (mostRounds (camerasOf net)) _ (runOf (camerasOf net) l2 y) f (next-more (problem net) k _ (runOf (camerasOf net) l2 y) (stateOf (camerasOf net) l1 r) h (again y e)) (omega arith));
+    run = sym (stays (standing L a l) (k + 1) (mostRounds (L .shape .cameras)) _ (runOf (L .shape .cameras) l2 y) f (next-more (standing L a l) k _ (runOf (L .shape .cameras) l2 y) (stateOf (L .shape .cameras) l1 r) h (again y e)) (omega arith));
     kept = iterated-kept;
   }
 
-  pub iterated-more : (t : Round) → x ≡ Going t → upto (λ (_ : ℕ). next (problem net)) (k + 1) (going (stateOf (camerasOf net) l first)) ≡ going (stateOf (camerasOf net) l2 t)
-  iterated-more t e = next-more (problem net) k _ (going (stateOf (camerasOf net) l2 t)) (stateOf (camerasOf net) l1 r) h (again (Going t) e)
+  pub iterated-more : (t : Round) → x ≡ Going t → upto (λ (_ : ℕ). next (standing L a l)) (k + 1) (going (stateOf (L .shape .cameras) l first)) ≡ going (stateOf (L .shape .cameras) l2 t)
+  iterated-more t e = next-more (standing L a l) k _ (going (stateOf (L .shape .cameras) l2 t)) (stateOf (L .shape .cameras) l1 r) h (again (Going t) e)
 
   pub iterated-count : (t : Round) → x ≡ Going t → t .count ≡ r .count + 1
-  iterated-count t e = counted (problem net) (stateOf (camerasOf net) l1 r) (stateOf (camerasOf net) l2 t) (sym (again (Going t) e))
+  iterated-count t e = counted (standing L a l) (stateOf (L .shape .cameras) l1 r) (stateOf (L .shape .cameras) l2 t) (sym (again (Going t) e))
 
 -- ---- the start
 
@@ -152,38 +156,36 @@ module _ (net : Network) (a : ℕ) (l l1 : List Float) (P : Posed net l) (A : a 
 
 -- ---- the end
 
-module _ (net : Network) (a : ℕ) (l l1 l2 : List Float) (S : Started net a l)
-    (e1 : l1 ≡ store vector l (appliedAt (camerasOf net)) (reduced net a (load vector l (positionsAt (camerasOf net)) (camerasOf net))))
-    (e2 : l2 ≡ store vector l1 (appliedAt (camerasOf net)) (difference (camerasOf net) (load vector l1 (appliedAt (camerasOf net)) (camerasOf net)) (load vector l1 (rightAt (camerasOf net)) (camerasOf net)))) where
-  -- the system applied to a field
-  pub applied-to : Kept (camerasOf net) l l1
-  applied-to = kept-store (camerasOf net) l _ _ l1 e1 (reduced-length net a _) (omega arith) (omega arith) (inr (omega arith))
-
-  pub settled-done : (v : Vec3) → v ≡ fieldDot (camerasOf net) a (load vector l2 (appliedAt (camerasOf net)) (camerasOf net)) (load vector l2 (appliedAt (camerasOf net)) (camerasOf net)) → Settled net l l2 v
-  unfolding residualOf problem
+module _ (s : Shape) (ends offsets listed : List ℕ) (a : ℕ) (l l1 l2 : List Float) (room : matrixAt s ≤ length l)
+    (e1 : l1 ≡ reducedIn (links s ends offsets listed) a (positionsAt (s .cameras)) (appliedAt (s .cameras)) l)
+    (e2 : l2 ≡ store vector l1 (appliedAt (s .cameras)) (difference (s .cameras) (load vector l1 (appliedAt (s .cameras)) (s .cameras)) (load vector l1 (rightAt (s .cameras)) (s .cameras)))) where
+  pub settled-done : (v : Vec3) → v ≡ fieldDot (s .cameras) a (load vector l2 (appliedAt (s .cameras)) (s .cameras)) (load vector l2 (appliedAt (s .cameras)) (s .cameras)) → Settled (standing (links s ends offsets listed) a l) l l2 v
+  unfolding residualOf
   settled-done v e =
-      let n = camerasOf net in
-      let w = reduced net a (load vector l (positionsAt n) n) in
-      let s1 : length w ≡ n = reduced-length net a _ in
+      let n = s .cameras in
+      let L = links s ends offsets listed in
+      let w = reducedBy L (weightsIn s l) a (load vector l (positionsAt n) n) in
+      let s1 : length w ≡ n = by-length L _ a _ in
       let s2 = difference-fill (load vector l1 (appliedAt n) n) (load vector l1 (rightAt n) n) .size n in
-      let room : 23 * n ≤ length l = omega (arith, S .posed .room) in
+      let to = kept-store n l _ _ l1 e1 s1 (omega arith) (omega arith) (inr (omega arith)) in
       let f : load vector l1 (appliedAt n) n ≡ w = own-field n l _ w l1 e1 s1 (omega arith) in
-      let g : load vector l2 (appliedAt n) n ≡ difference n (load vector l1 (appliedAt n) n) (load vector l1 (rightAt n) n) = own-field n l1 _ _ l2 e2 s2 (omega (arith, applied-to .outside .size)) in
+      let g : load vector l2 (appliedAt n) n ≡ difference n (load vector l1 (appliedAt n) n) (load vector l1 (rightAt n) n) = own-field n l1 _ _ l2 e2 s2 (omega (arith, to .outside .size)) in
       let q = kept-store n l1 _ _ l2 e2 s2 (omega arith) (omega arith) (inr (omega arith)) in
       record {
-        residual = e ∙ rw (g, f, applied-to .right, S .right, S .anchor);
-        kept = kept-then applied-to q;
+        residual = e ∙ rw (g, f, to .right);
+        kept = kept-then to q;
         positions = other-field n l1 _ _ l2 (positionsAt n) e2 s2 (inr (omega arith)) ∙ other-field n l _ _ l1 (positionsAt n) e1 s1 (inr (omega arith));
       }
 
--- the square sums are the method's
-pub sums-are : (net : Network) (a : ℕ) (l : List Float) (sums : Vec3) → Started net a l → Summed (camerasOf net) a l sums → sums ≡ squareSum (problem net)
-unfolding squareSum problem
-sums-are net a l sums S e = e ∙ rw (S .right, S .anchor)
+-- the final test: the square sums are the method's
+pub tested-done : (s : Shape) (ends offsets listed : List ℕ) (a : ℕ) (l l' : List Float) (sums bound v : Vec3) (r : Place) → let P = standing (links s ends offsets listed) a l in
+    Summed (s .cameras) a l sums → bound ≡ allowedOf sums → Settled P l l' v → r ≡ component (unfitAt bound v) → Tested P l l' r
+unfolding squareSum
+tested-done s ends offsets listed a l l' sums bound v r e f S g = record { place = g ∙ rw (f, e, S .residual); kept = S .kept; positions = S .positions }
 
 -- a run that the rounds leave, as one that ended
-pub concluded-as : (net : Network) (l l' : List Float) (o : Outcome) (x y : Run) → closed (problem net) x ≡ closed (problem net) y → Concluded net y l l' o → Concluded net x l l' o
-concluded-as net l l' o x y e C = record { answer = C .answer ∙ sym (ap answerOf e); kept = C .kept; positions = C .positions }
+pub concluded-as : (P : Problem) (l l' : List Float) (o : Outcome) (x y : Run) → closed P x ≡ closed P y → Concluded P y l l' o → Concluded P x l l' o
+concluded-as P l l' o x y e C = record { answer = C .answer ∙ sym (ap answerOf e); kept = C .kept; positions = C .positions }
 
 -- ---- the whole solve
 
@@ -219,10 +221,13 @@ module _ (net : Network) (a : ℕ) (l : List Float) (P : Posed net l) (A : a ≡
   pub solved-run : (l1 l2 l3 : List Float) (sums : Vec3) (first : Round) (x : Step) (o : Outcome) →
       lowest (badDiagonal a (diagonalOf (load term l 0 (camerasOf net)))) (camerasOf net) ≡ Nowhere →
       Opened (camerasOf net) a l l1 → Summed (camerasOf net) a l1 sums → first ≡ firstOf (camerasOf net) a l1 sums →
-      Iterated net (begun (stateOf (camerasOf net) l1 first)) l1 l2 x →
-      Concluded net (runOf (camerasOf net) l2 x) l2 l3 o →
+      Iterated (standing (linksOf net) a l1) (begun (stateOf (camerasOf net) l1 first)) l1 l2 x →
+      Concluded (standing (linksOf net) a l2) (runOf (camerasOf net) l2 x) l2 l3 o →
       Solved net l l3 o
-  solved-run l1 l2 l3 sums first x o e O Z f I C =
+  unfolding problem
+  solved-run l1 l2 l3 sums first x o e O Z f I0 C0 =
+      let I : Iterated (problem net) (begun (stateOf (camerasOf net) l1 first)) l1 l2 x = subst (λ (Q : Problem). Iterated Q (begun (stateOf (camerasOf net) l1 first)) l1 l2 x) (standing-problem net a l1 (opened-started net a l l1 P A O)) I0 in
+      let C : Concluded (problem net) (runOf (camerasOf net) l2 x) l2 l3 o = subst (λ (Q : Problem). Concluded Q (runOf (camerasOf net) l2 x) l2 l3 o) (standing-problem net a l2 (started-kept net a l1 l2 (I .kept) (opened-started net a l l1 P A O))) C0 in
       let g : stateOf (camerasOf net) l1 first ≡ start (problem net) = rw f (opened-state net a l l1 P A O sums Z) in
       let b : begun (stateOf (camerasOf net) l1 first) ≡ begun (start (problem net)) = ap begun g in
       let q : solution (problem net) ≡ closed (problem net) (runOf (camerasOf net) l2 x) = found-is Nowhere e ∙ sym (ap (closed (problem net)) (I .run ∙ ap (upto (λ (_ : ℕ). next (problem net)) (mostRounds (camerasOf net))) b)) in

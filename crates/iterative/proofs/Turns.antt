@@ -9,17 +9,17 @@ use lib.Ieee.{Float, add, binary64, sub}
 use Rattle.field.specs.Buffer.{load, store, vector}
 use Rattle.field.specs.declared.Place.the-variants.{At, Nowhere}
 use Rattle.field.specs.declared.Vec3.{Vec3}
-use Rattle.network.specs.Network.{Network}
-use Rattle.system.specs.Work.{appliedAt, positionsAt, preconditionedAt, residualAt, rightAt, searchAt, term}
-use Rattle.operator.proofs.OperatorLaws.{reduced-length}
-use Rattle.operator.specs.Operator.{reduced}
-use Rattle.operator.specs.Posed.{camerasOf}
+use Rattle.system.specs.Work.{appliedAt, matrixAt, positionsAt, preconditionedAt, residualAt, rightAt, searchAt, term}
+use Rattle.operator.proofs.OperatorLaws.{by-length}
+use Rattle.network.specs.declared.Shape.{Shape}
+use Rattle.operator.specs.Operator.{Links, links, reducedBy}
+use Rattle.operator.specs.Posed.{reducedIn, weightsIn}
 use Rattle.iterative.proofs.Fills.{advanced-fill, preconditioned-fill, searching-fill}
-use Rattle.iterative.proofs.Keeping.{held-kept, held-problem, kept-store, kept-then, other-field, own-field}
+use Rattle.iterative.proofs.Keeping.{held-kept, kept-store, kept-then, other-field, own-field}
 use Rattle.iterative.specs.Method.{State, advanced, any, boundOf, brokenAt, component, failed, flatAt, going, moved, onward, preconditioned, quotient, remaining, round, searching, squareSum, step, turn, turned}
-use Rattle.iterative.specs.Problem.{Problem, fieldDot}
-use Rattle.iterative.specs.Reduced.{diagonalOf, problem}
-use Rattle.iterative.specs.Solver.{Kept, Roomy, Started, held, runOf, stateOf}
+use Rattle.iterative.specs.Problem.{fieldDot}
+use Rattle.iterative.specs.Reduced.{diagonalOf}
+use Rattle.iterative.specs.Solver.{Bounded, Kept, Roomy, Rounded, Stepped, held, runOf, standing, stateOf}
 use Rattle.iterative.specs.declared.Active.{Active}
 use Rattle.iterative.specs.declared.Round.{Round}
 use Rattle.iterative.specs.declared.Step.{Step}
@@ -122,22 +122,33 @@ module _ (n a : ℕ) (op : List Vec3 → List Vec3) (l : List Float) (R : Roomy 
 
 -- ---- the whole round
 
-module _ (net : Network) (a : ℕ) (l l1 : List Float) (S : Started net a l)
-    (e : l1 ≡ store vector l (appliedAt (camerasOf net)) (reduced net a (load vector l (searchAt (camerasOf net)) (camerasOf net)))) where
-  pub applied-kept : Kept (camerasOf net) l l1
-  applied-kept = kept-store (camerasOf net) l _ _ l1 e (reduced-length net a _) (omega arith) (omega arith) (inr (omega arith))
+module _ (s : Shape) (ends offsets listed : List ℕ) (a from into : ℕ) (l l1 : List Float) (ef : from ≡ searchAt (s .cameras)) (ei : into ≡ appliedAt (s .cameras))
+    (e : l1 ≡ reducedIn (links s ends offsets listed) a from into l) where
+  abbrev L : Links
+  L = links s ends offsets listed
 
-  pub round-done : (l2 : List Float) (r : Round) (s : Step) →
-      runOf (camerasOf net) l2 s ≡ step (held (camerasOf net) a l1 (reduced net a)) (stateOf (camerasOf net) l1 r) (load vector l1 (appliedAt (camerasOf net)) (camerasOf net)) →
-      runOf (camerasOf net) l2 s ≡ round (problem net) (stateOf (camerasOf net) l r)
+  abbrev w : List Vec3
+  w = reducedBy L (weightsIn s l) a (load vector l (searchAt (s .cameras)) (s .cameras))
+
+  stored : l1 ≡ store vector l (appliedAt (s .cameras)) w
+  stored = rw (ef, ei) at e
+
+  applied-kept : Kept (s .cameras) l l1
+  applied-kept = kept-store (s .cameras) l _ _ l1 stored (by-length L _ a _) (omega arith) (omega arith) (inr (omega arith))
+
+  pub bounded-after : (bound : Vec3) → Bounded (s .cameras) a l bound → Bounded (s .cameras) a l1 bound
+  bounded-after bound h = rw (applied-kept .right) h
+
+  pub rounded-done : (l2 : List Float) (r : Round) (x : Step) → matrixAt s ≤ length l → Stepped (s .cameras) a r l1 l2 x → Rounded (standing L a l) r l l2 x
   unfolding round
-  round-done l2 r s h =
-      let n = camerasOf net in
-      let w = reduced net a (load vector l (searchAt n) n) in
-      let size : length w ≡ n = reduced-length net a _ in
-      let room : 23 * n ≤ length l = omega (arith, S .posed .room) in
-      let f : load vector l1 (appliedAt n) n ≡ w = own-field n l _ w l1 e size (omega arith) in
-      let x : load vector l1 (positionsAt n) n ≡ load vector l (positionsAt n) n = other-field n l _ w l1 (positionsAt n) e size (inr (omega arith)) in
-      let y : load vector l1 (residualAt n) n ≡ load vector l (residualAt n) n = other-field n l _ w l1 (residualAt n) e size (inr (omega arith)) in
-      let z : load vector l1 (searchAt n) n ≡ load vector l (searchAt n) n = other-field n l _ w l1 (searchAt n) e size (inr (omega arith)) in
-      h ∙ rw (held-kept n a l l1 (reduced net a) applied-kept, f, x, y, z) (ap (λ (P : Problem). step P (stateOf n l r) (P .operator (load vector l (searchAt n) n))) (held-problem net a l S))
+  rounded-done l2 r x room D =
+      let n = s .cameras in
+      let size : length w ≡ n = by-length L _ a _ in
+      let f : load vector l1 (appliedAt n) n ≡ w = own-field n l _ w l1 stored size (omega arith) in
+      let p : load vector l1 (positionsAt n) n ≡ load vector l (positionsAt n) n = other-field n l _ w l1 (positionsAt n) stored size (inr (omega arith)) in
+      let y : load vector l1 (residualAt n) n ≡ load vector l (residualAt n) n = other-field n l _ w l1 (residualAt n) stored size (inr (omega arith)) in
+      let z : load vector l1 (searchAt n) n ≡ load vector l (searchAt n) n = other-field n l _ w l1 (searchAt n) stored size (inr (omega arith)) in
+      record {
+        run = D .run (reducedBy L (weightsIn s l) a) ∙ rw (held-kept n a l l1 (reducedBy L (weightsIn s l) a) applied-kept, f, p, y, z);
+        kept = kept-then applied-kept (D .kept);
+      }

@@ -14,7 +14,8 @@ use Rattle.network.specs.Network.{Network}
 use Rattle.system.specs.Formed.{Segments}
 use Rattle.system.specs.System.{anchor}
 use Rattle.system.specs.Work.{appliedAt, positionsAt, residualAt, rightAt, searchAt, term, weightsAt}
-use Rattle.operator.specs.Posed.{Outside, Posed, camerasOf}
+use Rattle.operator.specs.Operator.{Links, reducedBy}
+use Rattle.operator.specs.Posed.{Outside, Posed, camerasOf, weightsIn}
 use Rattle.iterative.specs.Method.{Run, State, allowed, any, boundOf, closed, component, ended, failed, flag, going, moved, next, onward, opening, preconditioned, residualOf, round, solution, step, turn, unfitAt, zeros}
 use Rattle.iterative.specs.Problem.{Problem, fieldDot, mostRounds}
 use Rattle.iterative.specs.Reduced.{diagonalOf, problem, rightOf}
@@ -62,6 +63,10 @@ Bounded n a l bound = bound ≡ boundOf (fieldDot n a (load vector l (rightAt n)
 abbrev pub held : ℕ → ℕ → List Float → (List Vec3 → List Vec3) → Problem
 held n a l op = record { cameras = n; anchor = a; diagonal = diagonalOf (load term l 0 n); right = load vector l (rightAt n) n; operator = op }
 
+-- the same with the operator whose links are L and whose weights stand there too
+abbrev pub standing : Links → ℕ → List Float → Problem
+standing L a l = held (L .shape .cameras) a l (reducedBy L (weightsIn (L .shape) l) a)
+
 -- the fields that a round changes, with the round's record
 abbrev pub stateOf : ℕ → List Float → Round → State
 stateOf n l r = record { positions = load vector l (positionsAt n) n; residual = load vector l (residualAt n) n; search = load vector l (searchAt n) n; round = r }
@@ -97,15 +102,15 @@ pub record Stepped (n a : ℕ) (r : Round) (l l' : List Float) (s : Step) : Type
   pub run : (op : List Vec3 → List Vec3) → runOf n l' s ≡ step (held n a l op) (stateOf n l r) (load vector l (appliedAt n) n)
   pub kept : Kept n l l'
 
--- a whole round, with the network's operator
-pub record Rounded (net : Network) (r : Round) (l l' : List Float) (s : Step) : Type 0 where
-  pub run : runOf (camerasOf net) l' s ≡ round (problem net) (stateOf (camerasOf net) l r)
-  pub kept : Kept (camerasOf net) l l'
+-- a whole round of a problem
+pub record Rounded (P : Problem) (r : Round) (l l' : List Float) (s : Step) : Type 0 where
+  pub run : runOf (P .cameras) l' s ≡ round P (stateOf (P .cameras) l r)
+  pub kept : Kept (P .cameras) l l'
 
 -- the rounds that follow a run
-pub record Iterated (net : Network) (x : Run) (l l' : List Float) (s : Step) : Type 0 where
-  pub run : runOf (camerasOf net) l' s ≡ upto (λ (_ : ℕ). next (problem net)) (mostRounds (camerasOf net)) x
-  pub kept : Kept (camerasOf net) l l'
+pub record Iterated (P : Problem) (x : Run) (l l' : List Float) (s : Step) : Type 0 where
+  pub run : runOf (P .cameras) l' s ≡ upto (λ (_ : ℕ). next P) (mostRounds (P .cameras)) x
+  pub kept : Kept (P .cameras) l l'
 
 -- a start, with an active component or none
 abbrev pub begun : State → Run
@@ -129,20 +134,23 @@ diagonalNumber d = cond (finite d) 10 9
 
 -- ---- the end
 
--- the positions where they stand in a buffer
+-- the positions of n cameras where they stand in a buffer, and the network's
+abbrev pub placed : ℕ → List Float → List Vec3
+placed n l = load vector l (positionsAt n) n
+
 abbrev pub positionsIn : Network → List Float → List Vec3
-positionsIn net l = load vector l (positionsAt (camerasOf net)) (camerasOf net)
+positionsIn net l = placed (camerasOf net) l
 
 -- the right side and the positions stand as they were
-pub record Settled (net : Network) (l l' : List Float) (v : Vec3) : Type 0 where
-  pub residual : v ≡ residualOf (problem net) (positionsIn net l)
-  pub kept : Kept (camerasOf net) l l'
-  pub positions : positionsIn net l' ≡ positionsIn net l
+pub record Settled (P : Problem) (l l' : List Float) (v : Vec3) : Type 0 where
+  pub residual : v ≡ residualOf P (placed (P .cameras) l)
+  pub kept : Kept (P .cameras) l l'
+  pub positions : placed (P .cameras) l' ≡ placed (P .cameras) l
 
-pub record Tested (net : Network) (l l' : List Float) (r : Place) : Type 0 where
-  pub place : r ≡ component (unfitAt (allowed (problem net)) (residualOf (problem net) (positionsIn net l)))
-  pub kept : Kept (camerasOf net) l l'
-  pub positions : positionsIn net l' ≡ positionsIn net l
+pub record Tested (P : Problem) (l l' : List Float) (r : Place) : Type 0 where
+  pub place : r ≡ component (unfitAt (allowed P) (residualOf P (placed (P .cameras) l)))
+  pub kept : Kept (P .cameras) l l'
+  pub positions : placed (P .cameras) l' ≡ placed (P .cameras) l
 
 -- the answer for each way in which the method can end
 abbrev pub answerOf : Run → Outcome
@@ -150,10 +158,10 @@ answerOf (going s) = Placed (s .round .count)
 answerOf (ended s) = Placed (s .round .count)
 answerOf (failed k i) = Refused k i
 
-pub record Concluded (net : Network) (x : Run) (l l' : List Float) (o : Outcome) : Type 0 where
-  pub answer : o ≡ answerOf (closed (problem net) x)
-  pub kept : Kept (camerasOf net) l l'
-  pub positions : positionsIn net l' ≡ positionsIn net l
+pub record Concluded (P : Problem) (x : Run) (l l' : List Float) (o : Outcome) : Type 0 where
+  pub answer : o ≡ answerOf (closed P x)
+  pub kept : Kept (P .cameras) l l'
+  pub positions : placed (P .cameras) l' ≡ placed (P .cameras) l
 
 -- ---- the whole solve
 

@@ -13,11 +13,15 @@ use crate::fields::set_zero;
 use crate::fields::subtract;
 use field::Place;
 use field::Vec3;
-use operator::apply;
+use network::Shape;
+use operator::held::apply;
 ghost use mathlib.Core.Path.{_≡_};
 ghost use lib.ListN.{length};
-ghost use Rattle.network.specs.Network.{Network, lent};
-ghost use Rattle.iterative.specs.Solver.{Roomy, Started, Summed, Opened, firstOf, Settled, Tested, Concluded, stateOf, runOf};
+ghost use Prim.Native.Nat.{_≤_};
+ghost use Rattle.system.specs.Work.{matrixAt};
+ghost use Rattle.operator.specs.Operator.{links};
+ghost use Rattle.operator.specs.Posed.{Linked};
+ghost use Rattle.iterative.specs.Solver.{Roomy, Summed, Opened, firstOf, Settled, Tested, Concluded, stateOf, runOf, standing};
 ghost use Rattle.iterative.specs.Method.{ended};
 
 // What the method starts with: the square sums of the right side, and the first round's record.
@@ -64,127 +68,59 @@ pub(crate) fn start(work: &mut [f64], n: usize, anchor: usize) -> Opening
 
 // The square sums of the residual, worked out afresh from the positions.
 fn residual(
-    n: usize,
-    m: usize,
-    b: usize,
-    e: usize,
+    s: Shape,
     ends: &[usize],
-    rays: &[f64],
-    weights: &[f64],
-    scales: &[f64],
-    points: &[f64],
     offsets: &[usize],
     listed: &[usize],
-    anchor: usize,
     work: &mut [f64],
+    anchor: usize,
 ) -> Vec3
-    ghost { Network }
-    requires { λ net. ⌜ lent n m b e (now ends) (now rays) (now weights) (now scales) (now points) (now offsets) (now listed) ≡ net ⌝ }
-    requires { λ net. ⌜ Started net anchor (now work) ⌝ }
-    ensures { λ net v. ⌜ Settled net (now (work .entry)) (now (work .exit)) v ⌝ }
+    requires { ⌜ Linked (links s (now ends) (now offsets) (now listed)) ⌝ }
+    requires { ⌜ matrixAt s ≤ length (now work) ⌝ }
+    ensures { λ v. ⌜ Settled (standing (links s (now (ends .entry)) (now (offsets .entry)) (now (listed .entry))) anchor (now (work .entry))) (now (work .entry)) (now (work .exit)) v ⌝ }
 {
-    apply(
-        n,
-        m,
-        b,
-        e,
-        ends,
-        rays,
-        weights,
-        scales,
-        points,
-        offsets,
-        listed,
-        anchor,
-        work,
-        5 * n,
-        20 * n,
-    );
+    let n = s.cameras;
+    apply(work, s, ends, offsets, listed, anchor, 5 * n, 20 * n);
     subtract(work, n, 8 * n, 20 * n);
     field_dot(work, n, anchor, 20 * n, 20 * n)
 }
 
 // The lowest component that fails the final test (13).
 fn finish(
-    n: usize,
-    m: usize,
-    b: usize,
-    e: usize,
+    s: Shape,
     ends: &[usize],
-    rays: &[f64],
-    weights: &[f64],
-    scales: &[f64],
-    points: &[f64],
     offsets: &[usize],
     listed: &[usize],
-    anchor: usize,
     work: &mut [f64],
+    anchor: usize,
     sums: Vec3,
 ) -> Place
-    ghost { Network }
-    requires { λ net. ⌜ lent n m b e (now ends) (now rays) (now weights) (now scales) (now points) (now offsets) (now listed) ≡ net ⌝ }
-    requires { λ net. ⌜ Started net anchor (now work) ⌝ }
-    requires { λ net. ⌜ Summed n anchor (now work) sums ⌝ }
-    ensures { λ net r. ⌜ Tested net (now (work .entry)) (now (work .exit)) r ⌝ }
+    requires { ⌜ Linked (links s (now ends) (now offsets) (now listed)) ⌝ }
+    requires { ⌜ matrixAt s ≤ length (now work) ⌝ }
+    requires { ⌜ Summed (s .cameras) anchor (now work) sums ⌝ }
+    ensures { λ r. ⌜ Tested (standing (links s (now (ends .entry)) (now (offsets .entry)) (now (listed .entry))) anchor (now (work .entry))) (now (work .entry)) (now (work .exit)) r ⌝ }
 {
-    let v = residual(
-        n,
-        m,
-        b,
-        e,
-        ends,
-        rays,
-        weights,
-        scales,
-        points,
-        offsets,
-        listed,
-        anchor,
-        work,
-    );
+    let v = residual(s, ends, offsets, listed, work, anchor);
     unfit(allowed(sums), v)
 }
 
 // The answer to a run that ended with the record r.
 fn judge(
-    n: usize,
-    m: usize,
-    b: usize,
-    e: usize,
+    s: Shape,
     ends: &[usize],
-    rays: &[f64],
-    weights: &[f64],
-    scales: &[f64],
-    points: &[f64],
     offsets: &[usize],
     listed: &[usize],
-    anchor: usize,
     work: &mut [f64],
+    anchor: usize,
     sums: Vec3,
     r: Round,
 ) -> Outcome
-    ghost { Network }
-    requires { λ net. ⌜ lent n m b e (now ends) (now rays) (now weights) (now scales) (now points) (now offsets) (now listed) ≡ net ⌝ }
-    requires { λ net. ⌜ Started net anchor (now work) ⌝ }
-    requires { λ net. ⌜ Summed n anchor (now work) sums ⌝ }
-    ensures { λ net o. ⌜ Concluded net (ended (stateOf n (now (work .entry)) r)) (now (work .entry)) (now (work .exit)) o ⌝ }
+    requires { ⌜ Linked (links s (now ends) (now offsets) (now listed)) ⌝ }
+    requires { ⌜ matrixAt s ≤ length (now work) ⌝ }
+    requires { ⌜ Summed (s .cameras) anchor (now work) sums ⌝ }
+    ensures { λ o. ⌜ Concluded (standing (links s (now (ends .entry)) (now (offsets .entry)) (now (listed .entry))) anchor (now (work .entry))) (ended (stateOf (s .cameras) (now (work .entry)) r)) (now (work .entry)) (now (work .exit)) o ⌝ }
 {
-    let unfit_place = finish(
-        n,
-        m,
-        b,
-        e,
-        ends,
-        rays,
-        weights,
-        scales,
-        points,
-        offsets,
-        listed,
-        anchor,
-        work,
-        sums,
-    );
+    let unfit_place = finish(s, ends, offsets, listed, work, anchor, sums);
     match unfit_place {
         Place::At(i) => Outcome::Failed {
             number: 13,
@@ -196,63 +132,23 @@ fn judge(
 
 // The answer to a run.
 pub(crate) fn conclude(
-    n: usize,
-    m: usize,
-    b: usize,
-    e: usize,
+    s: Shape,
     ends: &[usize],
-    rays: &[f64],
-    weights: &[f64],
-    scales: &[f64],
-    points: &[f64],
     offsets: &[usize],
     listed: &[usize],
-    anchor: usize,
     work: &mut [f64],
+    anchor: usize,
     sums: Vec3,
-    s: Step,
+    x: Step,
 ) -> Outcome
-    ghost { Network }
-    requires { λ net. ⌜ lent n m b e (now ends) (now rays) (now weights) (now scales) (now points) (now offsets) (now listed) ≡ net ⌝ }
-    requires { λ net. ⌜ Started net anchor (now work) ⌝ }
-    requires { λ net. ⌜ Summed n anchor (now work) sums ⌝ }
-    ensures { λ net o. ⌜ Concluded net (runOf n (now (work .entry)) s) (now (work .entry)) (now (work .exit)) o ⌝ }
+    requires { ⌜ Linked (links s (now ends) (now offsets) (now listed)) ⌝ }
+    requires { ⌜ matrixAt s ≤ length (now work) ⌝ }
+    requires { ⌜ Summed (s .cameras) anchor (now work) sums ⌝ }
+    ensures { λ o. ⌜ Concluded (standing (links s (now (ends .entry)) (now (offsets .entry)) (now (listed .entry))) anchor (now (work .entry))) (runOf (s .cameras) (now (work .entry)) x) (now (work .entry)) (now (work .exit)) o ⌝ }
 {
-    match s {
+    match x {
         Step::Failed(number, place) => Outcome::Failed { number, place },
-        Step::Going(r) => judge(
-            n,
-            m,
-            b,
-            e,
-            ends,
-            rays,
-            weights,
-            scales,
-            points,
-            offsets,
-            listed,
-            anchor,
-            work,
-            sums,
-            r,
-        ),
-        Step::Ended(r) => judge(
-            n,
-            m,
-            b,
-            e,
-            ends,
-            rays,
-            weights,
-            scales,
-            points,
-            offsets,
-            listed,
-            anchor,
-            work,
-            sums,
-            r,
-        ),
+        Step::Going(r) => judge(s, ends, offsets, listed, work, anchor, sums, r),
+        Step::Ended(r) => judge(s, ends, offsets, listed, work, anchor, sums, r),
     }
 }

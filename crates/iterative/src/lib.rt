@@ -10,6 +10,7 @@ use ends::start;
 use field::Place;
 use field::Vec3;
 use fields::find_bad_diagonal;
+use network::Shape;
 use rounds::iterate;
 ghost use mathlib.Core.Path.{_≡_};
 ghost use Prim.Native.Nat.{_<_, _*_, _≤_};
@@ -86,40 +87,14 @@ fn run(
     let s = start(work, n, anchor);
     let sums = s.sums;
     let first = s.round;
-    let end = iterate(
-        n,
-        m,
-        b,
-        e,
-        ends,
-        rays,
-        weights,
-        scales,
-        points,
-        offsets,
-        listed,
-        anchor,
-        work,
-        sums,
-        first,
-    );
-    conclude(
-        n,
-        m,
-        b,
-        e,
-        ends,
-        rays,
-        weights,
-        scales,
-        points,
-        offsets,
-        listed,
-        anchor,
-        work,
-        sums,
-        end,
-    )
+    let shape = Shape {
+        cameras: n,
+        points: m,
+        bearings: b,
+        directions: e,
+    };
+    let end = iterate(shape, ends, offsets, listed, work, anchor, sums, first);
+    conclude(shape, ends, offsets, listed, work, anchor, sums, end)
 }
 
 // The system that stands in the work buffer solved by the written method: positions in their place, where it is accepted.

@@ -13,14 +13,19 @@ use crate::fields::precondition;
 use crate::fields::renew;
 use field::Place;
 use field::Vec3;
-use operator::apply;
+use network::Shape;
+use operator::held::apply;
+use system::work::applied_at;
+use system::work::search_at;
 ghost use mathlib.Core.Path.{_≡_};
 ghost use Prim.Native.Nat.{_≤_, _<_};
 ghost use lib.ListN.{length};
-ghost use Rattle.network.specs.Network.{Network, lent};
+ghost use Rattle.system.specs.Work.{matrixAt};
+ghost use Rattle.operator.specs.Operator.{links};
+ghost use Rattle.operator.specs.Posed.{Linked};
 ghost use Rattle.iterative.specs.Problem.{mostRounds};
 ghost use Rattle.iterative.specs.Method.{going};
-ghost use Rattle.iterative.specs.Solver.{Roomy, Started, Bounded, Summed, begun, stateOf, Turned, Moved, Went, Stepped, Rounded, Iterated};
+ghost use Rattle.iterative.specs.Solver.{Roomy, Bounded, Summed, begun, stateOf, Turned, Moved, Went, Stepped, Rounded, Iterated, standing};
 
 // The new search vector (12).
 fn turn(work: &mut [f64], n: usize, anchor: usize, r: Round) -> Step
@@ -101,45 +106,31 @@ fn step(work: &mut [f64], n: usize, anchor: usize, bound: Vec3, r: Round) -> Ste
 }
 
 pub(crate) fn round(
-    n: usize,
-    m: usize,
-    b: usize,
-    e: usize,
+    s: Shape,
     ends: &[usize],
-    rays: &[f64],
-    weights: &[f64],
-    scales: &[f64],
-    points: &[f64],
     offsets: &[usize],
     listed: &[usize],
-    anchor: usize,
     work: &mut [f64],
+    anchor: usize,
     bound: Vec3,
     r: Round,
 ) -> Step
-    ghost { Network }
-    requires { λ net. ⌜ lent n m b e (now ends) (now rays) (now weights) (now scales) (now points) (now offsets) (now listed) ≡ net ⌝ }
-    requires { λ net. ⌜ Started net anchor (now work) ⌝ }
-    requires { λ net. ⌜ Bounded n anchor (now work) bound ⌝ }
-    requires { λ net. ⌜ r .count < 4000 ⌝ }
-    ensures { λ net s. ⌜ Rounded net r (now (work .entry)) (now (work .exit)) s ⌝ }
+    requires { ⌜ Linked (links s (now ends) (now offsets) (now listed)) ⌝ }
+    requires { ⌜ matrixAt s ≤ length (now work) ⌝ }
+    requires { ⌜ Bounded (s .cameras) anchor (now work) bound ⌝ }
+    requires { ⌜ r .count < 4000 ⌝ }
+    ensures { λ x. ⌜ Rounded (standing (links s (now (ends .entry)) (now (offsets .entry)) (now (listed .entry))) anchor (now (work .entry))) r (now (work .entry)) (now (work .exit)) x ⌝ }
 {
+    let n = s.cameras;
     apply(
-        n,
-        m,
-        b,
-        e,
+        work,
+        s,
         ends,
-        rays,
-        weights,
-        scales,
-        points,
         offsets,
         listed,
         anchor,
-        work,
-        17 * n,
-        20 * n,
+        search_at(n),
+        applied_at(n),
     );
     step(work, n, anchor, bound, r)
 }
@@ -158,51 +149,27 @@ fn most_rounds(n: usize) -> usize
 
 // The rounds, from a first one with an active component on.
 fn rounds(
-    n: usize,
-    m: usize,
-    b: usize,
-    e: usize,
+    s: Shape,
     ends: &[usize],
-    rays: &[f64],
-    weights: &[f64],
-    scales: &[f64],
-    points: &[f64],
     offsets: &[usize],
     listed: &[usize],
-    anchor: usize,
     work: &mut [f64],
+    anchor: usize,
     bound: Vec3,
     first: Round,
 ) -> Step
-    ghost { Network }
-    requires { λ net. ⌜ lent n m b e (now ends) (now rays) (now weights) (now scales) (now points) (now offsets) (now listed) ≡ net ⌝ }
-    requires { λ net. ⌜ Started net anchor (now work) ⌝ }
-    requires { λ net. ⌜ Bounded n anchor (now work) bound ⌝ }
-    requires { λ net. ⌜ first .count ≡ 0 ⌝ }
-    ensures { λ net s. ⌜ Iterated net (going (stateOf n (now (work .entry)) first)) (now (work .entry)) (now (work .exit)) s ⌝ }
+    requires { ⌜ Linked (links s (now ends) (now offsets) (now listed)) ⌝ }
+    requires { ⌜ matrixAt s ≤ length (now work) ⌝ }
+    requires { ⌜ Bounded (s .cameras) anchor (now work) bound ⌝ }
+    requires { ⌜ first .count ≡ 0 ⌝ }
+    ensures { λ x. ⌜ Iterated (standing (links s (now (ends .entry)) (now (offsets .entry)) (now (listed .entry))) anchor (now (work .entry))) (going (stateOf (s .cameras) (now (work .entry)) first)) (now (work .entry)) (now (work .exit)) x ⌝ }
 {
-    let most = most_rounds(n);
+    let most = most_rounds(s.cameras);
     let mut r = first;
     let mut k = 0usize;
     while k < most {
-        let s = round(
-            n,
-            m,
-            b,
-            e,
-            ends,
-            rays,
-            weights,
-            scales,
-            points,
-            offsets,
-            listed,
-            anchor,
-            work,
-            bound,
-            r,
-        );
-        match s {
+        let x = round(s, ends, offsets, listed, work, anchor, bound, r);
+        match x {
             Step::Failed(number, place) => {
                 return Step::Failed(number, place);
             }
@@ -220,47 +187,23 @@ fn rounds(
 
 // The rounds, where the first one has an active component.
 pub(crate) fn iterate(
-    n: usize,
-    m: usize,
-    b: usize,
-    e: usize,
+    s: Shape,
     ends: &[usize],
-    rays: &[f64],
-    weights: &[f64],
-    scales: &[f64],
-    points: &[f64],
     offsets: &[usize],
     listed: &[usize],
-    anchor: usize,
     work: &mut [f64],
+    anchor: usize,
     sums: Vec3,
     first: Round,
 ) -> Step
-    ghost { Network }
-    requires { λ net. ⌜ lent n m b e (now ends) (now rays) (now weights) (now scales) (now points) (now offsets) (now listed) ≡ net ⌝ }
-    requires { λ net. ⌜ Started net anchor (now work) ⌝ }
-    requires { λ net. ⌜ Summed n anchor (now work) sums ⌝ }
-    requires { λ net. ⌜ first .count ≡ 0 ⌝ }
-    ensures { λ net s. ⌜ Iterated net (begun (stateOf n (now (work .entry)) first)) (now (work .entry)) (now (work .exit)) s ⌝ }
+    requires { ⌜ Linked (links s (now ends) (now offsets) (now listed)) ⌝ }
+    requires { ⌜ matrixAt s ≤ length (now work) ⌝ }
+    requires { ⌜ Summed (s .cameras) anchor (now work) sums ⌝ }
+    requires { ⌜ first .count ≡ 0 ⌝ }
+    ensures { λ x. ⌜ Iterated (standing (links s (now (ends .entry)) (now (offsets .entry)) (now (listed .entry))) anchor (now (work .entry))) (begun (stateOf (s .cameras) (now (work .entry)) first)) (now (work .entry)) (now (work .exit)) x ⌝ }
 {
     if any(first.active) {
-        rounds(
-            n,
-            m,
-            b,
-            e,
-            ends,
-            rays,
-            weights,
-            scales,
-            points,
-            offsets,
-            listed,
-            anchor,
-            work,
-            bound(sums),
-            first,
-        )
+        rounds(s, ends, offsets, listed, work, anchor, bound(sums), first)
     } else {
         Step::Ended(first)
     }

@@ -9,7 +9,8 @@ use lib.ListN.{length, getD, take, drop, length-append, length-drop}
 use lib.Seq.{take-append-le, drop-append-le, drop-append-add, take-all, take-add, drop-drop}
 use lib.Ieee.{Float, nan}
 use Rattle.field.specs.Buffer.{part}
-use Rattle.network.specs.Network.{Shape, rows}
+use Rattle.network.specs.Network.{rows}
+use Rattle.network.specs.declared.Shape.{Shape}
 use Rattle.layout.specs.Bytes.{bytesOf, doubleBytes, run, wholes, doubles, total}
 use Rattle.layout.specs.Image.{Content, pairs, joined, countBytes, rowBytes, rowOf, sections, sizes, assembled, image}
 use Rattle.layout.proofs.Numbers.{length-bytes}

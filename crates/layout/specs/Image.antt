@@ -4,7 +4,8 @@ use mathlib.Core.Path.{_≡_}
 use mathlib.Core.List.{List, [], _∷_, _++_, map}
 use lib.ListN.{length}
 use lib.Ieee.{Float}
-use Rattle.network.specs.Network.{Shape, rows}
+use Rattle.network.specs.Network.{rows}
+use Rattle.network.specs.declared.Shape.{Shape}
 use Rattle.layout.specs.Bytes.{bytesOf, run, wholes, doubles}
 
 -- what an image holds: a network without its point lists

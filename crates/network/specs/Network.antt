@@ -8,13 +8,8 @@ use lib.Dec.{ltb}
 use lib.Ieee.{Float, nan}
 use Rattle.field.specs.declared.Vec3.{Vec3}
 use Rattle.field.specs.Buffer.{get, vector}
-
--- the four counts: n, m, B, E
-pub record Shape : Type 0 where
-  pub cameras : ℕ
-  pub points : ℕ
-  pub bearings : ℕ
-  pub directions : ℕ
+-- the four counts, n, m, B, E: the struct of src/
+pub use Rattle.network.specs.declared.Shape.{Shape}
 
 abbrev pub shape : ℕ → ℕ → ℕ → ℕ → Shape
 shape n m b e = record { cameras = n; points = m; bearings = b; directions = e }

@@ -35,6 +35,14 @@ pub struct Refusal {
     pub place: usize,
 }
 
+// The four counts: cameras n, points m, bearings B, directions E.
+pub struct Shape {
+    pub cameras: usize,
+    pub points: usize,
+    pub bearings: usize,
+    pub directions: usize,
+}
+
 pub enum Verdict {
     Refused(Refusal),
     Passed,

@@ -5,3 +5,4 @@ pub mod Fills
 pub mod Passes
 pub mod Sights
 pub mod Operands
+pub mod Holding

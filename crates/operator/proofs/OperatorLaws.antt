@@ -3,22 +3,24 @@
 use mathlib.Core.Path.{_≡_, refl, sym, ap, _∙_, subst}
 use mathlib.Core.Bool.{Bool, true, false, cond}
 use mathlib.Core.List.{List}
-use Prim.Native.Nat.{ℕ, _<_}
+use Prim.Native.Nat.{ℕ, _+_, _<_}
+use native.Mathlib.Omega.{arith}
 use borrow.Author.Tests.{eqb-true, eqb-false, ne-eqb, eq-eqb, ltb-true, ltb-false}
 use lib.Dec.{eqb, ltb}
-use lib.ListN.{length, set, length-set}
+use lib.ListN.{getD, length, set, length-set}
 use lib.Seq.{set-out, getD-set-same, getD-set-other}
 use lib.Ieee.{Float, binary64, lt}
 use lib.Ieee.Scale.{finite}
 use Rattle.field.specs.declared.Vec3.{Vec3}
 use Rattle.field.specs.Vec.{Axis, on, origin, plus, minus, scale}
-use Rattle.field.specs.Count.{upto}
 use Rattle.field.proofs.Vectors.{on-plus, on-minus, on-scale}
-use Rattle.field.proofs.Counting.{length-field, getD-field, upto-invariant}
+use Rattle.field.proofs.Counting.{length-field, getD-field, upto-ext, upto-invariant}
 use Rattle.double.proofs.Finite.{finite-add, finite-sub, finite-mul}
-use Rattle.network.specs.Network.{Network, listSize}
-use Rattle.system.specs.System.{tiny, pointWeight}
-use Rattle.operator.specs.Operator.{at, ridge, changed, gains, loses, meanAt, ridged, bearingStep, listStep, pointStep, directionStep, reduced}
+use Rattle.network.specs.Network.{Network, rows}
+use Rattle.system.specs.System.{tiny}
+use Rattle.operator.specs.Operator.{Change, Links, Weights, at, ridge, changed, gains, loses, times, meanStep, ridged, bearingStep, listStep, spanOf, spanPass, pointStep, directionStep, linksOf, reduced, reducedBy, weightsOf}
+use Rattle.operator.specs.Posed.{Linked}
+use Rattle.operator.specs.declared.Span.{Span}
 
 -- ---- what each gain and each loss keeps, the operator keeps
 
@@ -29,32 +31,39 @@ record Stable (a : ℕ) (R : List Vec3 → List Vec3 → Type 0) : Type 0 where
   gain : (c : ℕ) (v : Vec3) (y : List Vec3) → R (gains a c v y) y
   loss : (c : ℕ) (v : Vec3) (y : List Vec3) → R (loses a c v y) y
 
-module _ (net : Network) (a : ℕ) (x : List Vec3) (R : List Vec3 → List Vec3 → Type 0) (K : Stable a R) where
-  steps : (f : ℕ → List Vec3 → List Vec3) → ((i : ℕ) (y : List Vec3) → R (f i y) y) → (n : ℕ) (y : List Vec3) → R (upto f n y) y
-  steps f h n y = upto-invariant (λ i t. R t y) f n y (λ i t l r. K .chain (f i t) t y (h i t) r) (K .same y)
+module _ (w : Weights) (a : ℕ) (x : List Vec3) (R : List Vec3 → List Vec3 → Type 0) (K : Stable a R) where
+  steps : (f : ℕ → Change) → ((i : ℕ) (y : List Vec3) → R (f i w x y) y) → (n : ℕ) (y : List Vec3) → R (times f n w x y) y
+  unfolding times
+  steps f h n y = upto-invariant (λ i t. R t y) (λ i. f i w x) n y (λ i t l r. K .chain (f i w x t) t y (h i t) r) (K .same y)
 
-  list-step : (p : ℕ) (u : Vec3) (i : ℕ) (y : List Vec3) → R (listStep net a x p u i y) y
+  bearing-step : (ends : List ℕ) (u : Vec3) (r : ℕ) (y : List Vec3) → R (bearingStep ends a u r w x y) y
   unfolding bearingStep
-  list-step p u i y = K .gain _ _ y
+  bearing-step ends u r y = K .gain _ _ y
 
-  point-step : (p : ℕ) (y : List Vec3) → R (pointStep net a x p y) y
-  unfolding pointStep
-  point-step p y = go (lt (pointWeight net p) tiny)
-    where
-      go : (b : Bool) → R (cond b y (upto (listStep net a x p (meanAt net x p)) (listSize net p) y)) y
-      go true = K .same y
-      go false = steps (listStep net a x p (meanAt net x p)) (list-step p (meanAt net x p)) (listSize net p) y
-
-  direction-step : (d : ℕ) (y : List Vec3) → R (directionStep net a x d y) y
+  direction-step : (b : ℕ) (ends : List ℕ) (d : ℕ) (y : List Vec3) → R (directionStep b ends a d w x y) y
   unfolding directionStep
-  direction-step d y = K .chain _ _ y (K .gain _ _ _) (K .loss _ _ y)
+  direction-step b ends d y = K .chain _ _ y (K .gain _ _ _) (K .loss _ _ y)
 
-  reduced-keeps : R (reduced net a x) (ridged (net .graph .shape .cameras) a x)
-  unfolding reduced
+module _ (L : Links) (w : Weights) (a : ℕ) (x : List Vec3) (R : List Vec3 → List Vec3 → Type 0) (K : Stable a R) where
+  span-pass : (listed : List ℕ) (p : Span) (t : Float) (y : List Vec3) → R (spanPass (L .ends) listed a p t w x y) y
+  unfolding spanPass
+  span-pass listed p t y = steps w a x R K (listStep (L .ends) listed (p .first) a _) (λ i. bearing-step w a x R K (L .ends) _ (getD listed (p .first + i) 0)) (p .size) y
+
+  point-step : (p : ℕ) (y : List Vec3) → R (pointStep L a p w x y) y
+  unfolding pointStep
+  point-step p y = go (lt (w .point p) tiny)
+    where
+      go : (b : Bool) → R (cond b y (spanPass (L .ends) (L .listed) a (spanOf (L .offsets) p) (w .point p) w x y)) y
+      go true = K .same y
+      go false = span-pass (L .listed) (spanOf (L .offsets) p) (w .point p) y
+
+  reduced-keeps : R (reducedBy L w a x) (ridged (L .shape .cameras) a x)
+  unfolding reducedBy
   reduced-keeps =
-      let z = ridged (net .graph .shape .cameras) a x in
-      let y = upto (pointStep net a x) (net .graph .shape .points) z in
-      K .chain _ y z (steps (directionStep net a x) direction-step _ y) (steps (pointStep net a x) point-step _ z)
+      let s = L .shape in
+      let z = ridged (s .cameras) a x in
+      let y = times (pointStep L a) (s .points) w x z in
+      K .chain _ y z (steps w a x R K (directionStep (s .bearings) (L .ends) a) (direction-step w a x R K (s .bearings) (L .ends)) (s .directions) y) (steps w a x R K (pointStep L a) point-step (s .points) z)
 
 -- ---- the length, and the anchor's entry
 
@@ -81,24 +90,33 @@ view-kept a view h = record { same = λ y. refl; chain = λ w y z p q. p ∙ q; 
 length-kept : (a : ℕ) → Stable a (λ w y. length w ≡ length y)
 length-kept a = view-kept a length (λ op. changed-length op a)
 
-module _ (net : Network) (a : ℕ) (x : List Vec3) where
-  pub length-list : (p : ℕ) (u : Vec3) (i : ℕ) (y : List Vec3) → length (listStep net a x p u i y) ≡ length y
-  length-list = list-step net a x _ (length-kept a)
+-- a change of a field of n vectors into another
+pub record Sized (n : ℕ) (F : Change) : Type 0 where
+  pub sized : (w : Weights) (x y : List Vec3) → length y ≡ n → length (F w x y) ≡ n
 
-  pub length-point : (p : ℕ) (y : List Vec3) → length (pointStep net a x p y) ≡ length y
-  length-point = point-step net a x _ (length-kept a)
+pub sized-times : (n : ℕ) (f : ℕ → Change) → ((i : ℕ) → Sized n (f i)) → (k : ℕ) → Sized n (times f k)
+unfolding times
+sized-times n f h k = record { sized = λ w x y e. upto-invariant (λ i t. length t ≡ n) (λ i. f i w x) k y (λ i t l r. h i .sized w x t r) e }
 
-  pub length-direction : (d : ℕ) (y : List Vec3) → length (directionStep net a x d y) ≡ length y
-  length-direction = direction-step net a x _ (length-kept a)
+pub sized-point : (L : Links) (n a p : ℕ) → Sized n (pointStep L a p)
+sized-point L n a p = record { sized = λ w x y e. point-step L w a x _ (length-kept a) p y ∙ e }
 
-  pub reduced-length : length (reduced net a x) ≡ net .graph .shape .cameras
+module _ (n a : ℕ) where
+  pub sized-bearing : (ends : List ℕ) (u : Vec3) (r : ℕ) → Sized n (bearingStep ends a u r)
+  sized-bearing ends u r = record { sized = λ w x y e. bearing-step w a x _ (length-kept a) ends u r y ∙ e }
+
+  pub sized-direction : (b : ℕ) (ends : List ℕ) (d : ℕ) → Sized n (directionStep b ends a d)
+  sized-direction b ends d = record { sized = λ w x y e. direction-step w a x _ (length-kept a) b ends d y ∙ e }
+
+module _ (L : Links) (w : Weights) (a : ℕ) (x : List Vec3) where
+  pub by-length : length (reducedBy L w a x) ≡ L .shape .cameras
   unfolding ridged
-  reduced-length = reduced-keeps net a x _ (length-kept a) ∙ length-field _ _
+  by-length = reduced-keeps L w a x _ (length-kept a) ∙ length-field _ _
 
-  pub reduced-anchor : a < net .graph .shape .cameras → at (reduced net a x) a ≡ origin
+  pub by-anchor : a < L .shape .cameras → at (reducedBy L w a x) a ≡ origin
   unfolding ridged
-  reduced-anchor h =
-      reduced-keeps net a x _ (view-kept a (λ y. at y a) (λ op. anchor-unchanged op a))
+  by-anchor h =
+      reduced-keeps L w a x _ (view-kept a (λ y. at y a) (λ op. anchor-unchanged op a))
       ∙ getD-field _ (λ i. cond (eqb i a) origin (scale (at x i) ridge)) a origin h
       ∙ rw (eq-eqb a a refl)
 
@@ -157,5 +175,46 @@ ridged-finite n a x k i l d e =
     let h = getD-field n (λ j. cond (eqb j a) origin (scale (at x j) ridge)) i origin l in
     firm-scale k (at x i) ridge (sym (ap finite (ap (on k) (h ∙ rw (ne-eqb i a d)))) ∙ e)
 
-pub reduced-finite : (net : Network) (a : ℕ) (x : List Vec3) (k : Axis) (i : ℕ) → i < net .graph .shape .cameras → (i ≡ a → ⊥) → finite (on k (at (reduced net a x) i)) ≡ true → finite (on k (at x i)) ≡ true
-reduced-finite net a x k i l d e = ridged-finite (net .graph .shape .cameras) a x k i l d (reduced-keeps net a x _ (finite-kept k i a) e)
+pub by-finite : (L : Links) (w : Weights) (a : ℕ) (x : List Vec3) (k : Axis) (i : ℕ) → i < L .shape .cameras → (i ≡ a → ⊥) → finite (on k (at (reducedBy L w a x) i)) ≡ true → finite (on k (at x i)) ≡ true
+by-finite L w a x k i l d e = ridged-finite (L .shape .cameras) a x k i l d (reduced-keeps L w a x _ (finite-kept k i a) e)
+
+-- ---- the network's own
+
+module _ (net : Network) (a : ℕ) (x : List Vec3) where
+  pub reduced-length : length (reduced net a x) ≡ net .graph .shape .cameras
+  reduced-length = by-length (linksOf net) (weightsOf net) a x
+
+  pub reduced-anchor : a < net .graph .shape .cameras → at (reduced net a x) a ≡ origin
+  reduced-anchor = by-anchor (linksOf net) (weightsOf net) a x
+
+  pub reduced-finite : (k : Axis) (i : ℕ) → i < net .graph .shape .cameras → (i ≡ a → ⊥) → finite (on k (at (reduced net a x) i)) ≡ true → finite (on k (at x i)) ≡ true
+  reduced-finite = by-finite (linksOf net) (weightsOf net) a x
+
+-- ---- two weights that agree at the rows and points in range
+
+module _ (L : Links) (S : Linked L) (a : ℕ) (v w : Weights) (row : (r : ℕ) → r < rows (L .shape) → v .row r ≡ w .row r) (point : (p : ℕ) → p < L .shape .points → v .point p ≡ w .point p) (x : List Vec3) where
+  listed-same : (p : ℕ) → p < L .shape .points → (i : ℕ) → i < spanOf (L .offsets) p .size → let r = getD (L .listed) (spanOf (L .offsets) p .first + i) 0 in v .row r ≡ w .row r
+  listed-same p h i k = row _ (omega (arith, S .listed .bearing (getD (L .offsets) p 0 + i) (omega (arith, S .offsets .within (p + 1) (omega arith)))))
+
+  span-same : (p : ℕ) → p < L .shape .points → (t : Float) (y : List Vec3) → spanPass (L .ends) (L .listed) a (spanOf (L .offsets) p) t v x y ≡ spanPass (L .ends) (L .listed) a (spanOf (L .offsets) p) t w x y
+  unfolding spanPass times bearingStep
+  span-same p h t y =
+      let k = spanOf (L .offsets) p .first in
+      let n = spanOf (L .offsets) p .size in
+      rw (upto-ext (meanStep (L .ends) (L .listed) k v x) (meanStep (L .ends) (L .listed) k w x) n origin (λ i z b. rw (listed-same p h i b)))
+      (upto-ext (λ i. listStep (L .ends) (L .listed) k a _ i v x) (λ i. listStep (L .ends) (L .listed) k a _ i w x) n y (λ i z b. rw (listed-same p h i b)))
+
+  point-same : (p : ℕ) → p < L .shape .points → (y : List Vec3) → pointStep L a p v x y ≡ pointStep L a p w x y
+  unfolding pointStep
+  point-same p h y = rw (point p h, span-same p h (w .point p) y)
+
+  direction-same : (d : ℕ) → d < L .shape .directions → (y : List Vec3) → directionStep (L .shape .bearings) (L .ends) a d v x y ≡ directionStep (L .shape .bearings) (L .ends) a d w x y
+  unfolding directionStep
+  direction-same d h y = rw (row (L .shape .bearings + d) (omega arith))
+
+  pub reduced-same : reducedBy L v a x ≡ reducedBy L w a x
+  unfolding reducedBy times
+  reduced-same =
+      let s = L .shape in
+      rw (upto-ext (λ p. pointStep L a p v x) (λ p. pointStep L a p w x) (s .points) (ridged (s .cameras) a x) (λ p y h. point-same p h y))
+      (upto-ext (λ d. directionStep (s .bearings) (L .ends) a d v x) (λ d. directionStep (s .bearings) (L .ends) a d w x) (s .directions) _ (λ d y h. direction-same d h y))

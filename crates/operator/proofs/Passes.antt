@@ -1,28 +1,29 @@
--- The operator's passes over a field in the buffer, from what the calls ensure. Assumes nothing.
+-- The operator's changes of a field in the buffer, from what the calls ensure. Assumes nothing.
 use mathlib.Core.Path.{ap, sym, _∙_, _≡_}
 use mathlib.Core.Logic.{inr}
 use mathlib.Core.List.{List}
 use mathlib.Core.Bool.{false, true}
-use Prim.Native.Nat.{ℕ, _*_, _+_, _<_, _≤_}
+use Prim.Native.Nat.{ℕ, suc, _*_, _+_, _<_, _≤_}
 use native.Mathlib.Numerals.{add-one}
 use native.Mathlib.Omega.{arith}
 use borrow.Author.Tests.{eq-eqb, ne-eqb}
-use lib.ListN.{getD, length}
+use lib.ListN.{drop, getD, length}
 use lib.Ieee.{Float, lt, nan}
-use Rattle.field.proofs.Buffers.{at-load, change-field, length-load, length-store, step-more, store-load, through, vector-lawful}
-use Rattle.field.proofs.Counting.{length-field, upto-keeps, upto-suc, upto-zero}
+use Rattle.field.proofs.Buffers.{at-load, change-field, drop-store, length-load, store-load, through, vector-lawful}
+use Rattle.field.proofs.Counting.{length-field, upto-suc, upto-zero}
 use Rattle.field.specs.Buffer.{get, load, put, store, vector}
 use Rattle.field.specs.Count.{upto}
 use Rattle.field.specs.Vec.{minus, origin, over, plus, scale}
 use Rattle.field.specs.declared.Vec3.{Vec3}
-use Rattle.network.specs.Network.{Network, first, listSize, rows, second}
-use Rattle.system.specs.System.{pointWeight, rowOf, tiny}
+use Rattle.network.specs.Network.{firstEnd, rows, secondEnd}
+use Rattle.network.specs.declared.Shape.{Shape}
+use Rattle.system.specs.System.{tiny}
 use Rattle.system.specs.Work.{effectiveAt, weightsAt}
-use Rattle.operator.proofs.OperatorLaws.{changed-length, length-list, length-point, length-direction}
-use Rattle.operator.proofs.Outside.{outside-store, posed-outside}
-use Rattle.operator.proofs.Standing.{effective-at, weight-at}
-use Rattle.operator.specs.Operator.{at, bearingStep, changed, directionStep, listStep, meanAt, meanStep, pointStep, reduced, ridged}
-use Rattle.operator.specs.Posed.{Ordered, Posed, camerasOf}
+use Rattle.operator.proofs.OperatorLaws.{Sized, changed-length, sized-bearing, sized-direction, sized-point, sized-times}
+use Rattle.operator.proofs.Standing.{weights-kept}
+use Rattle.operator.specs.Operator.{Change, Links, at, bearingStep, changed, directionStep, links, listStep, meanStep, pointStep, reducedBy, ridged, spanOf, spanPass, times}
+use Rattle.operator.specs.Posed.{EndsLinked, Laid, applied, weightsIn}
+use Rattle.operator.specs.declared.Span.{Span}
 
 -- ---- the ridge
 
@@ -41,142 +42,163 @@ module _ (op : Vec3 → Vec3 → Vec3) (l m : List Float) (into n a c : ℕ) (v 
   unfolding changed
   changed-other d h e = e ∙ rw (ne-eqb c a d) (change-field vector vector-lawful (λ u. op u v) l into n c origin h fits)
 
--- ---- a pass of steps over the field at `into`, which read the field at `from`
+-- ---- one change after another
 
-pub record Pass (step : List Vec3 → ℕ → List Vec3 → List Vec3) (net : Network) (l : List Float) (from into n : ℕ) : Type 0 where
-  pub none : l ≡ store vector l into (upto (step (load vector l from n)) 0 (load vector l into n))
-  -- one step more
-  pub more : (i : ℕ) (m w : List Float) → m ≡ store vector l into (upto (step (load vector l from n)) i (load vector l into n)) → w ≡ store vector m into (step (load vector m from n) i (load vector m into n)) → w ≡ store vector l into (upto (step (load vector l from n)) (i + 1) (load vector l into n))
-  -- what a step finds
-  pub posed : (i : ℕ) (m : List Float) → Posed net l → m ≡ store vector l into (upto (step (load vector l from n)) i (load vector l into n)) → Posed net m
-  pub size : (i : ℕ) (m : List Float) → m ≡ store vector l into (upto (step (load vector l from n)) i (load vector l into n)) → length m ≡ length l
+abbrev after : Change → Change → Change
+after G F w x y = G w x (F w x y)
 
-pass : (step : List Vec3 → ℕ → List Vec3 → List Vec3) (net : Network) (l : List Float) (from into : ℕ) → ((x : List Vec3) (i : ℕ) (y : List Vec3) → length (step x i y) ≡ length y) → Ordered (camerasOf net) from into (length l) → Pass step net l from into (camerasOf net)
-pass step net l from into keeps O =
-    let n = net .graph .shape .cameras in
-    let x = load vector l from n in
-    let y = load vector l into n in
-    let fits : into + 3 * n ≤ length l = omega (arith, O .last, O .room) in
-    let sized : (i : ℕ) → length (upto (step x) i y) ≡ n = λ i. upto-keeps length (step x) i y (λ k z h. keeps x k z) ∙ length-load vector l into n in
-    record {
-      none = rw upto-zero (sym (store-load vector vector-lawful l into n fits));
-      more = λ i m w e h.
-          h
-          ∙ rw add-one
-          (step-more vector vector vector-lawful step l m from n into n i y e (sized i) (inr (omega (arith, O .apart))) fits
-          (keeps x i (upto (step x) i y) ∙ sized i));
-      posed = λ i m P e.
-          posed-outside net l m (outside-store n l into (upto (step x) i y) m e (sized i) (omega (arith, O .first, O .apart)) (O .last)) P;
-      size = λ i m e. ap length e ∙ length-store vector l into (upto (step x) i y);
-    }
+times-suc : (f : ℕ → Change) (i : ℕ) → times f (suc i) ≡ after (f i) (times f i)
+unfolding times
+times-suc f i = λ j w x y. upto-suc (λ k. f k w x) i y j
 
--- ---- the bearings of a point
+module _ (s : Shape) (from into : ℕ) (l : List Float) (O : Laid s from into (length l)) where
+  fits : into + 3 * s .cameras ≤ length l
+  fits = omega (arith, O .ordered .last, O .ordered .room)
 
-module _ (net : Network) (l : List Float) (P : Posed net l) where
-  -- what a bearing adds to its point's sum
-  pub sum-more : (from p i : ℕ) (s s' v : Vec3) → let n = net .graph .shape .cameras in let m = net .graph .shape .points in let r = rowOf net p i in
-      r < rows (net .graph .shape) →
-      s ≡ upto (meanStep net (load vector l from n) p) i origin →
-      v ≡ scale (get vector l (from + 3 * first (net .graph) r)) (getD l (effectiveAt n m + r) nan) →
-      s' ≡ plus s v →
-      s' ≡ upto (meanStep net (load vector l from n) p) (i + 1) origin
-  sum-more from p i s s' v h e f g =
-      let n = net .graph .shape .cameras in
-      let r = rowOf net p i in
-      let c : at (load vector l from n) (first (net .graph) r) ≡ get vector l (from + 3 * first (net .graph) r) = at-load vector l from n _ origin (P .sound .ends .camera r h) in
-      rw (add-one, upto-suc, c, ← effective-at net l P r h, ← e, ← f) g
+  weights-after : (f : List Vec3) (m : List Float) → m ≡ store vector l into f → length f ≡ s .cameras → weightsIn s m ≡ weightsIn s l
+  weights-after f m e h = weights-kept s l m (ap (drop (weightsAt (s .cameras))) e ∙ drop-store vector vector-lawful (weightsAt (s .cameras)) l into f (omega (arith, O .ordered .last)))
 
+  pub both : (F G : Change) (m w : List Float) → Sized (s .cameras) F → Sized (s .cameras) G → m ≡ applied s from into F l → w ≡ applied s from into G m → w ≡ applied s from into (after G F) l
+  unfolding applied
+  both F G m w hF hG e f =
+      let n = s .cameras in
+      let x = load vector l from n in
+      let z = F (weightsIn s l) x (load vector l into n) in
+      let size : length z ≡ n = hF .sized (weightsIn s l) x (load vector l into n) (length-load vector l into n) in
+      f
+      ∙ ap (λ t. store vector m into (G t (load vector m from n) (load vector m into n))) (weights-after z m e size)
+      ∙ through vector vector vector-lawful (G (weightsIn s l)) l m from n into n z e size (inr (omega (arith, O .ordered .apart))) fits (hG .sized (weightsIn s l) x z size)
+
+  -- a loop of changes: where it begins, and one more
+  pub none : (f : ℕ → Change) → l ≡ applied s from into (times f 0) l
+  unfolding applied times
+  none f = rw upto-zero (sym (store-load vector vector-lawful l into (s .cameras) fits))
+
+  pub more : (f : ℕ → Change) → ((i : ℕ) → Sized (s .cameras) (f i)) → (i : ℕ) (m w : List Float) → m ≡ applied s from into (times f i) l → w ≡ applied s from into (f i) m → w ≡ applied s from into (times f (i + 1)) l
+  more f h i m w e g = rw (add-one, times-suc) (both (times f i) (f i) m w (sized-times (s .cameras) f h i) (h i) e g)
+
+-- ---- the rows
+
+module _ (s : Shape) (ends : List ℕ) (E : EndsLinked s ends) (a from into : ℕ) (l : List Float) where
   -- what a bearing does to its camera
-  pub bearing-done : (a from into r : ℕ) (u v : Vec3) (w : List Float) → let n = net .graph .shape .cameras in let m = net .graph .shape .points in let c = first (net .graph) r in
-      r < rows (net .graph .shape) →
-      v ≡ scale (minus (get vector l (from + 3 * c)) u) (getD l (effectiveAt n m + r) nan) →
-      w ≡ store vector l into (changed plus a c v (load vector l into n)) →
-      w ≡ store vector l into (bearingStep net a (load vector l from n) u r (load vector l into n))
-  unfolding bearingStep
-  bearing-done a from into r u v w h e f =
-      let n = net .graph .shape .cameras in
-      let c : at (load vector l from n) (first (net .graph) r) ≡ get vector l (from + 3 * first (net .graph) r) = at-load vector l from n _ origin (P .sound .ends .camera r h) in
-      rw (c, ← effective-at net l P r h, ← e) f
+  pub bearing-done : (r c at : ℕ) (u x v : Vec3) (w : List Float) →
+      r < rows s →
+      c ≡ firstEnd ends r →
+      x ≡ get vector l (from + 3 * c) →
+      at ≡ effectiveAt (s .cameras) (s .points) →
+      v ≡ scale (minus x u) (getD l (at + r) nan) →
+      w ≡ store vector l into (changed plus a c v (load vector l into (s .cameras))) →
+      w ≡ applied s from into (bearingStep ends a u r) l
+  unfolding applied bearingStep
+  bearing-done r c at u x v w h ec ex et ev f =
+      let k : getD (load vector l from (s .cameras)) (firstEnd ends r) origin ≡ x = at-load vector l from (s .cameras) _ origin (E .camera r h) ∙ rw (← ec, ← ex) in
+      rw (k, ← et, ← ev, ← ec) f
 
   -- what a direction does to its source and its target
-  pub direction-done : (a from into d : ℕ) (v : Vec3) (m w : List Float) → let n = net .graph .shape .cameras in let r = net .graph .shape .bearings + d in let s = first (net .graph) r in let t = second (net .graph) r in
-      Ordered n from into (length l) →
-      d < net .graph .shape .directions →
-      v ≡ scale (minus (get vector l (from + 3 * t)) (get vector l (from + 3 * s))) (getD l (effectiveAt n (net .graph .shape .points) + r) nan) →
-      m ≡ store vector l into (changed minus a s v (load vector l into n)) →
-      w ≡ store vector m into (changed plus a t v (load vector m into n)) →
-      w ≡ store vector l into (directionStep net a (load vector l from n) d (load vector l into n))
-  unfolding directionStep
-  direction-done a from into d v m w O h e f g =
-      let n = net .graph .shape .cameras in
-      let r = net .graph .shape .bearings + d in
-      let s = first (net .graph) r in
-      let t = second (net .graph) r in
-      let b : r < rows (net .graph .shape) = omega arith in
-      let es : at (load vector l from n) s ≡ get vector l (from + 3 * s) = at-load vector l from n s origin (P .sound .ends .camera r b) in
-      let et : at (load vector l from n) t ≡ get vector l (from + 3 * t) = at-load vector l from n t origin (P .sound .ends .target r (omega arith) b) in
-      let y = changed minus a s v (load vector l into n) in
-      let size : length y ≡ n = changed-length minus a s v (load vector l into n) ∙ length-load vector l into n in
-      rw (es, et, ← effective-at net l P r b, ← e)
+  pub direction-done : (d i j : ℕ) (v : Vec3) (m w : List Float) → let r = s .bearings + d in
+      Laid s from into (length l) →
+      d < s .directions →
+      i ≡ firstEnd ends r →
+      j ≡ secondEnd ends r →
+      v ≡ scale (minus (get vector l (from + 3 * j)) (get vector l (from + 3 * i))) (weightsIn s l .row r) →
+      m ≡ store vector l into (changed minus a i v (load vector l into (s .cameras))) →
+      w ≡ store vector m into (changed plus a j v (load vector m into (s .cameras))) →
+      w ≡ applied s from into (directionStep (s .bearings) ends a d) l
+  unfolding applied directionStep
+  direction-done d i j v m w O h ei ej ev f g =
+      let n = s .cameras in
+      let r = s .bearings + d in
+      let b : r < rows s = omega arith in
+      let ki : getD (load vector l from n) (firstEnd ends r) origin ≡ get vector l (from + 3 * i) = at-load vector l from n _ origin (E .camera r b) ∙ rw (← ei) in
+      let kj : getD (load vector l from n) (secondEnd ends r) origin ≡ get vector l (from + 3 * j) = at-load vector l from n _ origin (E .target r (omega arith) b) ∙ rw (← ej) in
+      let z = changed minus a i v (load vector l into n) in
+      let size : length z ≡ n = changed-length minus a i v (load vector l into n) ∙ length-load vector l into n in
+      rw (ki, kj, ← ev, ← ei, ← ej)
       (g
-      ∙ through vector vector vector-lawful (λ x z. changed plus a t v z) l m from n into n y f size (inr (omega (arith, O .apart))) (omega (arith, O .last, O .room))
-      (changed-length plus a t v y ∙ size))
+      ∙ through vector vector vector-lawful (λ t k. changed plus a j v k) l m from n into n z f size (inr (omega (arith, O .ordered .apart))) (omega (arith, O .ordered .last, O .ordered .room))
+      (changed-length plus a j v z ∙ size))
+
+-- ---- points
+
+module _ (s : Shape) (ends listed : List ℕ) (E : EndsLinked s ends) (from : ℕ) (l : List Float) where
+  -- what a bearing adds to its point's sum
+  pub sum-more : (k i r c at : ℕ) (t t' x v : Vec3) →
+      r < s .bearings →
+      r ≡ getD listed (k + i) 0 →
+      c ≡ firstEnd ends r →
+      x ≡ get vector l (from + 3 * c) →
+      at ≡ effectiveAt (s .cameras) (s .points) →
+      v ≡ scale x (getD l (at + r) nan) →
+      t ≡ upto (meanStep ends listed k (weightsIn s l) (load vector l from (s .cameras))) i origin →
+      t' ≡ plus t v →
+      t' ≡ upto (meanStep ends listed k (weightsIn s l) (load vector l from (s .cameras))) (i + 1) origin
+  sum-more k i r c at t t' x v h er ec ex ea ev et g =
+      let q : getD (load vector l from (s .cameras)) (firstEnd ends r) origin ≡ x = at-load vector l from (s .cameras) _ origin (E .camera r (omega arith)) ∙ rw (← ec, ← ex) in
+      rw (add-one, upto-suc, ← et, ← er, q, ← ea, ← ev) g
 
 -- the bearings of a point with the mean of its cameras, which is their sum over the point's weight
-pub mean-taken : (net : Network) (a : ℕ) (x y : List Vec3) (l m : List Float) (into p : ℕ) (s u : Vec3) (w : Float) →
-    w ≡ pointWeight net p → s ≡ upto (meanStep net x p) (listSize net p) origin → u ≡ over s w →
-    m ≡ store vector l into (upto (listStep net a x p u) (listSize net p) y) →
-    m ≡ store vector l into (upto (listStep net a x p (meanAt net x p)) (listSize net p) y)
-unfolding meanAt
-mean-taken net a x y l m into p s u w h e f g = rw (← h, ← e, ← f) g
+pub mean-taken : (s : Shape) (ends listed : List ℕ) (from into a : ℕ) (l m : List Float) (p : Span) (v u : Vec3) (t : Float) →
+    v ≡ upto (meanStep ends listed (p .first) (weightsIn s l) (load vector l from (s .cameras))) (p .size) origin →
+    u ≡ over v t →
+    m ≡ applied s from into (times (listStep ends listed (p .first) a u) (p .size)) l →
+    m ≡ applied s from into (spanPass ends listed a p t) l
+unfolding applied spanPass
+mean-taken s ends listed from into a l m p v u t e f g = rw (← e, ← f) g
 
--- ---- the passes
+-- a list of i bearings
+pub rows-are : (s : Shape) (ends listed : List ℕ) (from into a : ℕ) (l w : List Float) (p : Span) (t : Float) (i : ℕ) → p .size ≡ i →
+    w ≡ applied s from into (spanPass ends listed a (record { first = p .first; size = i }) t) l →
+    w ≡ applied s from into (spanPass ends listed a p t) l
+rows-are s ends listed from into a l w p t i e f = f ∙ ap (λ k. applied s from into (spanPass ends listed a (record { first = p .first; size = k }) t) l) (sym e)
 
-module _ (net : Network) (a : ℕ) (l : List Float) (from into : ℕ) (O : Ordered (camerasOf net) from into (length l)) where
-  pub list-pass : (p : ℕ) (u : Vec3) → Pass (λ x. listStep net a x p u) net l from into (camerasOf net)
-  list-pass p u = pass (λ x. listStep net a x p u) net l from into (λ x i y. length-list net a x p u i y) O
+-- point p: skipped, or with the mean of its cameras
+module _ (s : Shape) (ends offsets listed : List ℕ) (from into a p : ℕ) (l : List Float) (at : ℕ) (ea : at ≡ weightsAt (s .cameras)) where
+  pub point-skipped : Laid s from into (length l) → lt (getD l (at + p) nan) tiny ≡ true → l ≡ applied s from into (pointStep (links s ends offsets listed) a p) l
+  unfolding applied pointStep
+  point-skipped O b = let k : lt (getD l (weightsAt (s .cameras) + p) nan) tiny ≡ true = rw (← ea) b in rw k (sym (store-load vector vector-lawful l into _ (fits s from into l O)))
 
-  pub points-pass : Pass (λ x. pointStep net a x) net l from into (camerasOf net)
-  points-pass = pass (λ x. pointStep net a x) net l from into (λ x i y. length-point net a x i y) O
+  pub point-met : (q : Span) (w : List Float) → q ≡ spanOf offsets p → lt (getD l (at + p) nan) tiny ≡ false → w ≡ applied s from into (spanPass ends listed a q (getD l (at + p) nan)) l → w ≡ applied s from into (pointStep (links s ends offsets listed) a p) l
+  unfolding applied pointStep
+  point-met q w e b g =
+      let k : lt (getD l (weightsAt (s .cameras) + p) nan) tiny ≡ false = rw (← ea) b in
+      let h : getD l (at + p) nan ≡ getD l (weightsAt (s .cameras) + p) nan = rw ea in
+      rw (k, ← e, ← h) g
 
-  pub directions-pass : Pass (λ x. directionStep net a x) net l from into (camerasOf net)
-  directions-pass = pass (λ x. directionStep net a x) net l from into (λ x i y. length-direction net a x i y) O
+-- ---- the loops: where each begins, one turn more, where it ends
 
-  -- point p: skipped, or with the mean of its cameras
-  pub point-skipped : (p : ℕ) → let n = net .graph .shape .cameras in Posed net l → p < net .graph .shape .points → lt (getD l (weightsAt n + p) nan) tiny ≡ true → l ≡ store vector l into (pointStep net a (load vector l from n) p (load vector l into n))
-  unfolding pointStep
-  point-skipped p P h t =
-      rw (← weight-at net l P p h, t) (sym (store-load vector vector-lawful l into _ (omega (arith, O .last, O .room))))
+pub ended : (s : Shape) (from into : ℕ) (l w : List Float) (f : ℕ → Change) (k n : ℕ) → w ≡ applied s from into (times f k) l → n ≤ k → k ≤ n → w ≡ applied s from into (times f n) l
+ended s from into l w f k n e a b = let q : k ≡ n = omega arith in rw q at e
 
-  pub point-met : (p : ℕ) (w : List Float) → let n = net .graph .shape .cameras in let x = load vector l from n in
-      Posed net l → p < net .graph .shape .points → lt (getD l (weightsAt n + p) nan) tiny ≡ false →
-      w ≡ store vector l into (upto (listStep net a x p (meanAt net x p)) (listSize net p) (load vector l into n)) →
-      w ≡ store vector l into (pointStep net a x p (load vector l into n))
-  unfolding pointStep
-  point-met p w P h t g = rw (← weight-at net l P p h, t) g
+module _ (s : Shape) (from into : ℕ) (l : List Float) (O : Laid s from into (length l)) (i : ℕ) (m w : List Float) where
+  pub list-more : (ends listed : List ℕ) (k a : ℕ) (u : Vec3) (r : ℕ) → r ≡ getD listed (k + i) 0 → m ≡ applied s from into (times (listStep ends listed k a u) i) l → w ≡ applied s from into (bearingStep ends a u r) m → w ≡ applied s from into (times (listStep ends listed k a u) (i + 1)) l
+  list-more ends listed k a u r h e g = more s from into l O _ (λ j. sized-bearing (s .cameras) a ends u _) i m w e (rw h at g)
 
-  -- what the passes after the first find
-  pub ridged-posed : (w : List Float) → let n = net .graph .shape .cameras in Posed net l → w ≡ store vector l into (ridged n a (load vector l from n)) → Posed net w
-  ridged-posed w P e =
-      let n = net .graph .shape .cameras in
-      let x = load vector l from n in
-      posed-outside net l w (outside-store n l into (ridged n a x) w e (length-ridged n a x) (omega (arith, O .first, O .apart)) (O .last)) P
+  pub points-more : (L : Links) (a : ℕ) → m ≡ applied s from into (times (pointStep L a) i) l → w ≡ applied s from into (pointStep L a i) m → w ≡ applied s from into (times (pointStep L a) (i + 1)) l
+  points-more L a e g = more s from into l O _ (sized-point L (s .cameras) a) i m w e g
 
-  -- the three passes one after another
-  pub reduced-done : (l1 l2 l3 : List Float) → let n = net .graph .shape .cameras in
-      l1 ≡ store vector l into (ridged n a (load vector l from n)) →
-      l2 ≡ store vector l1 into (upto (pointStep net a (load vector l1 from n)) (net .graph .shape .points) (load vector l1 into n)) →
-      l3 ≡ store vector l2 into (upto (directionStep net a (load vector l2 from n)) (net .graph .shape .directions) (load vector l2 into n)) →
-      l3 ≡ store vector l into (reduced net a (load vector l from n))
-  unfolding reduced
-  reduced-done l1 l2 l3 e1 e2 e3 =
-      let n = net .graph .shape .cameras in
-      let x = load vector l from n in
-      let y1 = ridged n a x in
-      let y2 = upto (pointStep net a x) (net .graph .shape .points) y1 in
-      let s1 : length y1 ≡ n = length-ridged n a x in
-      let s2 : length y2 ≡ n = upto-keeps length (pointStep net a x) _ y1 (λ k y h. length-point net a x k y) ∙ s1 in
-      let s3 : length (upto (directionStep net a x) (net .graph .shape .directions) y2) ≡ n = upto-keeps length (directionStep net a x) _ y2 (λ k y h. length-direction net a x k y) ∙ s2 in
-      let fits : into + 3 * n ≤ length l = omega (arith, O .last, O .room) in
-      let f2 : l2 ≡ store vector l into y2 = e2 ∙ through vector vector vector-lawful (λ z y. upto (pointStep net a z) (net .graph .shape .points) y) l l1 from n into n y1 e1 s1 (inr (omega (arith, O .apart))) fits s2 in
-      e3 ∙ through vector vector vector-lawful (λ z y. upto (directionStep net a z) (net .graph .shape .directions) y) l l2 from n into n y2 f2 s2 (inr (omega (arith, O .apart))) fits s3
+  pub directions-more : (ends : List ℕ) (a : ℕ) → m ≡ applied s from into (times (directionStep (s .bearings) ends a) i) l → w ≡ applied s from into (directionStep (s .bearings) ends a i) m → w ≡ applied s from into (times (directionStep (s .bearings) ends a) (i + 1)) l
+  directions-more ends a e g = more s from into l O _ (sized-direction (s .cameras) a (s .bearings) ends) i m w e g
+
+pub sum-none : (f : ℕ → Vec3 → Vec3) (t : Vec3) → t ≡ origin → t ≡ upto f 0 origin
+sum-none f t e = e ∙ sym (upto-zero f origin)
+
+pub sum-ended : (f : ℕ → Vec3 → Vec3) (t : Vec3) (k n : ℕ) → t ≡ upto f k origin → n ≤ k → k ≤ n → t ≡ upto f n origin
+sum-ended f t k n e a b = let q : k ≡ n = omega arith in rw q at e
+
+-- ---- the three passes one after another
+
+pub reduced-done : (L : Links) (a from into : ℕ) (l l1 l2 l3 : List Float) → let s = L .shape in
+    Laid s from into (length l) →
+    l1 ≡ store vector l into (ridged (s .cameras) a (load vector l from (s .cameras))) →
+    l2 ≡ applied s from into (times (pointStep L a) (s .points)) l1 →
+    l3 ≡ applied s from into (times (directionStep (s .bearings) (L .ends) a) (s .directions)) l2 →
+    l3 ≡ store vector l into (reducedBy L (weightsIn s l) a (load vector l from (s .cameras)))
+unfolding applied reducedBy
+reduced-done L a from into l l1 l2 l3 O e1 e2 e3 =
+    let s = L .shape in
+    let n = s .cameras in
+    let R : Change = λ w x y. ridged n a x in
+    let P = times (pointStep L a) (s .points) in
+    let hR : Sized n R = record { sized = λ w x y e. length-ridged n a x } in
+    let hP : Sized n P = sized-times n _ (sized-point L n a) (s .points) in
+    both s from into l O (after P R) (times (directionStep (s .bearings) (L .ends) a) (s .directions)) l2 l3 (record { sized = λ w x y e. hP .sized w x (R w x y) (hR .sized w x y e) }) (sized-times n _ (sized-direction n a (s .bearings) (L .ends)) (s .directions)) (both s from into l O R P l1 l2 hR hP e1 e2) e3

@@ -1,23 +1,22 @@
 -- A point that lists a few rows: what is read of each, and the steps that it makes of them. Assumes nothing.
 use mathlib.Core.Path.{ap, refl, sym, _∙_, _≡_}
 use mathlib.Core.List.{List}
-use Prim.Native.Nat.{ℕ, suc, _*_, _+_, _<_, _≤_}
+use Prim.Native.Nat.{ℕ, suc, _*_, _+_, _≤_}
+use native.Mathlib.Nat.{add-zero}
 use native.Mathlib.Omega.{arith}
 use lib.ListN.{getD, length}
-use lib.Ieee.{Float, nan}
+use lib.Ieee.{Float}
 use Rattle.field.proofs.Buffers.{at-load, length-load, load-store, store-store, vector-lawful}
 use Rattle.field.proofs.Counting.{upto-suc}
-use Rattle.field.specs.Buffer.{get, load, store, vector}
+use Rattle.field.specs.Buffer.{load, store, vector}
 use Rattle.field.specs.Count.{upto}
 use Rattle.field.specs.Vec.{minus, origin, over, plus, scale}
 use Rattle.field.specs.declared.Vec3.{Vec3}
-use Rattle.network.specs.Network.{Network, first, listSize, listedAt, offset}
-use Rattle.system.specs.System.{effective, pointWeight, rowOf}
-use Rattle.system.specs.Work.{effectiveAt}
+use Rattle.network.specs.Network.{firstEnd}
+use Rattle.network.specs.declared.Shape.{Shape}
 use Rattle.operator.proofs.OperatorLaws.{changed-length}
-use Rattle.operator.proofs.Standing.{effective-at, listed-row}
-use Rattle.operator.specs.Operator.{at, bearingStep, gains, listStep, meanAt, meanStep}
-use Rattle.operator.specs.Posed.{Posed}
+use Rattle.operator.specs.Operator.{bearingStep, gains, listStep, meanStep, spanPass, times}
+use Rattle.operator.specs.Posed.{Seen, applied, weightsIn}
 use Rattle.operator.specs.declared.short.Sight.{Sight}
 
 -- a sum with a sight's camera added by its weight, and a field whose camera gains by it
@@ -49,53 +48,47 @@ both-stored l m w into n F G hF hG e f fits =
     let y = F (load vector l into n) in
     f ∙ rw (e, load-store vector vector-lawful l into y n (hF .kept _ ∙ length-load vector l into n) fits) (store-store vector vector-lawful l into y (G y) (sym (hG .kept y)))
 
--- ---- what a point has of the i-th row that it lists
+-- ---- the first i bearings listed from place k on, each seen
 
-pub record Sighted (net : Network) (x : List Vec3) (p i : ℕ) (s : Sight) : Type 0 where
-  pub camera : s .camera ≡ first (net .graph) (rowOf net p i)
-  pub weight : s .weight ≡ effective net (rowOf net p i)
-  pub at : s .at ≡ at x (first (net .graph) (rowOf net p i))
-
-module _ (net : Network) (l : List Float) (P : Posed net l) (from p : ℕ) (h : p < net .graph .shape .points) where
-  pub sighted : (i k : ℕ) (s : Sight) → let n = net .graph .shape .cameras in let r = listedAt net k in let c = first (net .graph) r in
-      i < listSize net p →
-      k ≡ offset net p + i →
-      s .camera ≡ c →
-      s .weight ≡ getD l (effectiveAt n (net .graph .shape .points) + r) nan →
-      s .at ≡ get vector l (from + 3 * c) →
-      Sighted net (load vector l from n) p i s
-  sighted i k s b e camera weight seen =
-      let q = listed-row (P .sound) p i h b in
-      record {
-        camera = rw e at camera;
-        weight = (rw e at weight) ∙ effective-at net l P (rowOf net p i) (omega arith);
-        at = (rw e at seen) ∙ sym (at-load vector l from _ _ origin (q .camera));
-      }
-
--- ---- the first i rows that a point lists, each seen
-
-module _ (net : Network) (x : List Vec3) (p : ℕ) where
+module _ (s : Shape) (ends listed : List ℕ) (l : List Float) (from k : ℕ) where
   -- v is the sum of their cameras, and F is what they do to a field where the anchor is a and the mean is u
-  pub record Walked (i : ℕ) (v : Vec3) (F : ℕ → Vec3 → List Vec3 → List Vec3) : Type 0 where
-    pub sum : v ≡ upto (meanStep net x p) i origin
-    pub steps : (a : ℕ) (u : Vec3) (y : List Vec3) → F a u y ≡ upto (listStep net a x p u) i y
+  record Walked (i : ℕ) (v : Vec3) (F : ℕ → Vec3 → List Vec3 → List Vec3) : Type 0 where
+    sum : v ≡ upto (meanStep ends listed k (weightsIn s l) (load vector l from (s .cameras))) i origin
+    steps : (a : ℕ) (u : Vec3) (y : List Vec3) → F a u y ≡ times (listStep ends listed k a u) i (weightsIn s l) (load vector l from (s .cameras)) y
 
-  pub none : Walked 0 origin (λ a u y. y)
-  unfolding upto
+  none : Walked 0 origin (λ a u y. y)
+  unfolding upto times
   none = record { sum = refl; steps = λ a u y. refl }
 
-  pub more : (i : ℕ) (s : Sight) {v : Vec3} {F : ℕ → Vec3 → List Vec3 → List Vec3} → Sighted net x p i s → Walked i v F → Walked (suc i) (added s v) (λ a u y. pushed a u s (F a u y))
-  unfolding bearingStep
-  more i s q W = record {
-    sum = rw (upto-suc, q .at, q .weight, W .sum);
-    steps = λ a u y. rw (upto-suc, q .camera, q .weight, q .at, W .steps a u y);
-  }
+  more : (i : ℕ) (t : Sight) {v : Vec3} {F : ℕ → Vec3 → List Vec3 → List Vec3} → Seen s ends l from (getD listed (k + i) 0) t → Walked i v F → Walked (suc i) (added t v) (λ a u y. pushed a u t (F a u y))
+  unfolding bearingStep times
+  more i t q W =
+      let e : t .at ≡ getD (load vector l from (s .cameras)) (firstEnd ends (getD listed (k + i) 0)) origin = q .at ∙ sym (at-load vector l from _ _ origin (omega (arith, q .camera, q .below))) in
+      record {
+        sum = rw (upto-suc, e, q .weight, W .sum);
+        steps = λ a u y. rw (upto-suc, q .camera, q .weight, e, W .steps a u y);
+      }
 
-  -- all of them: the point's step
-  pub done : (i : ℕ) {v : Vec3} {F : ℕ → Vec3 → List Vec3 → List Vec3} (a into : ℕ) (l m : List Float) (w : Float) (y : List Vec3) → Walked i v F → listSize net p ≡ i →
-      w ≡ pointWeight net p →
-      m ≡ store vector l into (F a (over v w) y) →
-      m ≡ store vector l into (upto (listStep net a x p (meanAt net x p)) (listSize net p) y)
-  unfolding meanAt
-  done i {v} {F} a into l m w y W size h f =
-      f ∙ ap (store vector l into) (rw (size, ← W .sum, ← h) (W .steps a (over v w) y))
+  done : (i : ℕ) {v : Vec3} {F : ℕ → Vec3 → List Vec3 → List Vec3} (a into : ℕ) (m : List Float) (t : Float) → Walked i v F →
+      m ≡ store vector l into (F a (over v t) (load vector l into (s .cameras))) →
+      m ≡ applied s from into (spanPass ends listed a (record { first = k; size = i }) t) l
+  unfolding applied spanPass
+  done i {v} {F} a into m t W f = f ∙ ap (store vector l into) (rw (← W .sum) (W .steps a (over v t) _))
+
+  -- two, three and four of them: what the step over them makes
+  module _ (a into : ℕ) (m : List Float) (t : Float) (s0 s1 : Sight) (q0 : Seen s ends l from (getD listed k 0) s0) (q1 : Seen s ends l from (getD listed (k + 1) 0) s1) where
+    first : Seen s ends l from (getD listed (k + 0) 0) s0
+    first = rw add-zero q0
+
+    pub two-done : (let u = over (added s1 (added s0 origin)) t in m ≡ store vector l into (pushed a u s1 (pushed a u s0 (load vector l into (s .cameras))))) →
+        m ≡ applied s from into (spanPass ends listed a (record { first = k; size = 2 }) t) l
+    two-done f = done 2 a into m t (more 1 s1 q1 (more 0 s0 first none)) f
+
+    module _ (s2 : Sight) (q2 : Seen s ends l from (getD listed (k + 2) 0) s2) where
+      pub three-done : (let u = over (added s2 (added s1 (added s0 origin))) t in m ≡ store vector l into (pushed a u s2 (pushed a u s1 (pushed a u s0 (load vector l into (s .cameras)))))) →
+          m ≡ applied s from into (spanPass ends listed a (record { first = k; size = 3 }) t) l
+      three-done f = done 3 a into m t (more 2 s2 q2 (more 1 s1 q1 (more 0 s0 first none))) f
+
+      pub four-done : (s3 : Sight) → Seen s ends l from (getD listed (k + 3) 0) s3 → (let u = over (added s3 (added s2 (added s1 (added s0 origin)))) t in m ≡ store vector l into (pushed a u s3 (pushed a u s2 (pushed a u s1 (pushed a u s0 (load vector l into (s .cameras))))))) →
+          m ≡ applied s from into (spanPass ends listed a (record { first = k; size = 4 }) t) l
+      four-done s3 q3 f = done 4 a into m t (more 3 s3 q3 (more 2 s2 q2 (more 1 s1 q1 (more 0 s0 first none)))) f

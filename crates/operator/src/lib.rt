@@ -6,23 +6,26 @@ use field::Vec3;
 use field::gain3;
 use field::get3;
 use field::put3;
-use held::row_pull;
-use short::four_step;
-use short::seen;
-use short::three_step;
-use short::two_step;
+use network::Shape;
+use short::four_rows;
+use short::three_rows;
+use short::two_rows;
+use system::work::effective_at;
+use system::work::weights_at;
 ghost use mathlib.Core.Path.{_≡_};
 ghost use mathlib.Core.Bool.{cond};
 ghost use Prim.Native.Nat.{_+_, _*_, _<_, _≤_};
 ghost use lib.Dec.{eqb};
-ghost use lib.ListN.{length};
-ghost use Rattle.field.specs.Vec.{origin, plus, minus};
+ghost use lib.ListN.{length, getD};
+ghost use lib.Ieee.{nan};
+ghost use Rattle.field.specs.Vec.{origin, plus, minus, scale};
 ghost use Rattle.field.specs.Count.{upto};
-ghost use Rattle.field.specs.Buffer.{load, store, vector};
-ghost use Rattle.network.specs.Network.{Network, lent, listSize};
-ghost use Rattle.system.specs.System.{pointWeight};
-ghost use Rattle.operator.specs.Operator.{changed, ridged, meanAt, meanStep, bearingStep, listStep, pointStep, directionStep, reduced};
-ghost use Rattle.operator.specs.Posed.{Posed, Ordered};
+ghost use Rattle.field.specs.Buffer.{get, load, store, vector};
+ghost use Rattle.network.specs.Network.{rows, firstEnd, secondEnd};
+ghost use Rattle.network.specs.Sound.{ShapeSound};
+ghost use Rattle.system.specs.Work.{matrixAt};
+ghost use Rattle.operator.specs.Operator.{links, changed, ridged, times, spanOf, meanStep, bearingStep, listStep, spanPass, pointStep, directionStep};
+ghost use Rattle.operator.specs.Posed.{EndsLinked, OffsetsLinked, ListedLinked, Linked, Within, Ordered, Laid, weightsIn, applied, reducedIn};
 
 // u at the anchor, v at any other camera i.
 pub fn anchored(i: usize, anchor: usize, u: Vec3, v: Vec3) -> Vec3
@@ -75,508 +78,311 @@ fn lose(work: &mut [f64], n: usize, anchor: usize, into: usize, c: usize, v: Vec
     }
 }
 
+// ---- what is read of the links, with its range
+
+// The camera of a bearing, the source of a direction.
+pub(crate) fn camera_of(s: Shape, ends: &[usize], r: usize) -> usize
+    requires { ⌜ EndsLinked s (now ends) ⌝ }
+    requires { ⌜ r < rows s ⌝ }
+    ensures { λ c. ⌜ (c ≡ firstEnd (now (ends .entry)) r) × (c < s .cameras) ⌝ }
+{
+    ends[2 * r]
+}
+
+// The target of a direction.
+fn target_of(s: Shape, ends: &[usize], r: usize) -> usize
+    requires { ⌜ EndsLinked s (now ends) ⌝ }
+    requires { ⌜ (s .bearings ≤ r) × (r < rows s) ⌝ }
+    ensures { λ c. ⌜ (c ≡ secondEnd (now (ends .entry)) r) × (c < s .cameras) ⌝ }
+{
+    ends[2 * r + 1]
+}
+
+// The places of the point lists that a point has: so many, from the first on.
+pub struct Span {
+    pub first: usize,
+    pub size: usize,
+}
+
+fn span_of(s: Shape, offsets: &[usize], p: usize) -> Span
+    requires { ⌜ OffsetsLinked s (now offsets) ⌝ }
+    requires { ⌜ p < s .points ⌝ }
+    ensures { λ r. ⌜ (r ≡ spanOf (now (offsets .entry)) p) × (r .first + r .size ≤ s .bearings) ⌝ }
+{
+    let first = offsets[p];
+    Span {
+        first: first,
+        size: offsets[p + 1] - first,
+    }
+}
+
+// The bearing at place k of the point lists.
+pub(crate) fn listed_at(s: Shape, listed: &[usize], k: usize) -> usize
+    requires { ⌜ ListedLinked s (now listed) ⌝ }
+    requires { ⌜ k < s .bearings ⌝ }
+    ensures { λ r. ⌜ (r ≡ getD (now (listed .entry)) k 0) × (r < s .bearings) ⌝ }
+{
+    listed[k]
+}
+
+// ---- the steps
+
+// (v - u) × the number that stands at `at`.
+fn pulled(work: &[f64], at: usize, v: Vec3, u: Vec3) -> Vec3
+    requires { ⌜ at < length (now work) ⌝ }
+    ensures { λ x. ⌜ x ≡ scale (minus v u) (getD (now (work .entry)) at nan) ⌝ }
+{
+    v.sub(u).mul(work[at])
+}
+
 // The camera of bearing r gains (camera - u) × its effective weight.
 fn bearing_step(
-    n: usize,
-    m: usize,
-    b: usize,
-    e: usize,
+    s: Shape,
     ends: &[usize],
-    rays: &[f64],
-    weights: &[f64],
-    scales: &[f64],
-    points: &[f64],
-    offsets: &[usize],
-    listed: &[usize],
-    anchor: usize,
     work: &mut [f64],
+    anchor: usize,
     from: usize,
     into: usize,
     r: usize,
     u: Vec3,
 )
-    ghost { Network }
-    requires { λ net. ⌜ lent n m b e (now ends) (now rays) (now weights) (now scales) (now points) (now offsets) (now listed) ≡ net ⌝ }
-    requires { λ net. ⌜ Posed net (now work) ⌝ }
-    requires { λ net. ⌜ Ordered n from into (length (now work)) ⌝ }
-    requires { λ net. ⌜ r < b + e ⌝ }
-    ensures { λ net x. ⌜ now (work .exit) ≡ store vector (now (work .entry)) into (bearingStep net anchor (load vector (now (work .entry)) from n) u r (load vector (now (work .entry)) into n)) ⌝ }
+    requires { ⌜ EndsLinked s (now ends) ⌝ }
+    requires { ⌜ Laid s from into (length (now work)) ⌝ }
+    requires { ⌜ r < rows s ⌝ }
+    ensures { λ x. ⌜ now (work .exit) ≡ applied s from into (bearingStep (now (ends .entry)) anchor u r) (now (work .entry)) ⌝ }
 {
-    let c = ends[2 * r];
+    let c = camera_of(s, ends, r);
     let x = get3(work, from + 3 * c);
-    let at = 23 * n + 4 * m;
-    let v = row_pull(work, at, at + b + e, r, x, u);
-    gain(work, n, anchor, into, c, v);
+    let v = pulled(work, effective_at(s) + r, x, u);
+    gain(work, s.cameras, anchor, into, c, v);
 }
 
-// The sum of the cameras that see point p, by effective weight.
-fn point_sum(
-    n: usize,
-    m: usize,
-    b: usize,
-    e: usize,
-    ends: &[usize],
-    rays: &[f64],
-    weights: &[f64],
-    scales: &[f64],
-    points: &[f64],
-    offsets: &[usize],
-    listed: &[usize],
-    work: &[f64],
-    from: usize,
-    p: usize,
-) -> Vec3
-    ghost { Network }
-    requires { λ net. ⌜ lent n m b e (now ends) (now rays) (now weights) (now scales) (now points) (now offsets) (now listed) ≡ net ⌝ }
-    requires { λ net. ⌜ Posed net (now work) ⌝ }
-    requires { λ net. ⌜ from + 3 * n ≤ length (now work) ⌝ }
-    requires { λ net. ⌜ p < m ⌝ }
-    ensures { λ net v. ⌜ v ≡ upto (meanStep net (load vector (now (work .entry)) from n) p) (listSize net p) origin ⌝ }
+// The sum of the cameras that see a point, by effective weight.
+fn point_sum(s: Shape, ends: &[usize], listed: &[usize], work: &[f64], from: usize, p: Span) -> Vec3
+    requires { ⌜ EndsLinked s (now ends) ⌝ }
+    requires { ⌜ ListedLinked s (now listed) ⌝ }
+    requires { ⌜ Within s from (p .first) (p .size) (length (now work)) ⌝ }
+    ensures { λ v. ⌜ v ≡ upto (meanStep (now (ends .entry)) (now (listed .entry)) (p .first) (weightsIn s (now (work .entry))) (load vector (now (work .entry)) from (s .cameras))) (p .size) origin ⌝ }
 {
-    let first = offsets[p];
-    let size = offsets[p + 1] - first;
+    let at = effective_at(s);
+    let first = p.first;
+    let size = p.size;
     let mut sum = zero();
     let mut i = 0usize;
     while i < size {
-        let r = listed[first + i];
-        let c = ends[2 * r];
-        let v = get3(work, from + 3 * c).mul(work[23 * n + 4 * m + r]);
+        let r = listed_at(s, listed, first + i);
+        let c = camera_of(s, ends, r);
+        let v = get3(work, from + 3 * c).mul(work[at + r]);
         sum = sum.add(v);
         i += 1;
     }
     sum
 }
 
-// The bearings of point p, whose cameras have the mean u.
+// The bearings of a point whose cameras have the mean u.
 fn point_gain(
-    n: usize,
-    m: usize,
-    b: usize,
-    e: usize,
+    s: Shape,
     ends: &[usize],
-    rays: &[f64],
-    weights: &[f64],
-    scales: &[f64],
-    points: &[f64],
-    offsets: &[usize],
     listed: &[usize],
-    anchor: usize,
     work: &mut [f64],
+    anchor: usize,
     from: usize,
     into: usize,
-    p: usize,
+    p: Span,
     u: Vec3,
 )
-    ghost { Network }
-    requires { λ net. ⌜ lent n m b e (now ends) (now rays) (now weights) (now scales) (now points) (now offsets) (now listed) ≡ net ⌝ }
-    requires { λ net. ⌜ Posed net (now work) ⌝ }
-    requires { λ net. ⌜ Ordered n from into (length (now work)) ⌝ }
-    requires { λ net. ⌜ p < m ⌝ }
-    ensures { λ net x. ⌜ now (work .exit) ≡ store vector (now (work .entry)) into (upto (listStep net anchor (load vector (now (work .entry)) from n) p u) (listSize net p) (load vector (now (work .entry)) into n)) ⌝ }
+    requires { ⌜ EndsLinked s (now ends) ⌝ }
+    requires { ⌜ ListedLinked s (now listed) ⌝ }
+    requires { ⌜ Laid s from into (length (now work)) ⌝ }
+    requires { ⌜ p .first + p .size ≤ s .bearings ⌝ }
+    ensures { λ x. ⌜ now (work .exit) ≡ applied s from into (times (listStep (now (ends .entry)) (now (listed .entry)) (p .first) anchor u) (p .size)) (now (work .entry)) ⌝ }
 {
-    let first = offsets[p];
-    let size = offsets[p + 1] - first;
+    let first = p.first;
+    let size = p.size;
     let mut i = 0usize;
     while i < size {
-        bearing_step(
-            n,
-            m,
-            b,
-            e,
-            ends,
-            rays,
-            weights,
-            scales,
-            points,
-            offsets,
-            listed,
-            anchor,
-            work,
-            from,
-            into,
-            listed[first + i],
-            u,
-        );
+        let r = listed_at(s, listed, first + i);
+        bearing_step(s, ends, work, anchor, from, into, r, u);
         i += 1;
     }
 }
 
-// Point p of weight w: the mean of its cameras, then bearing by bearing.
+// A point of weight t: the mean of its cameras, then bearing by bearing.
 fn long_step(
-    n: usize,
-    m: usize,
-    b: usize,
-    e: usize,
+    s: Shape,
     ends: &[usize],
-    rays: &[f64],
-    weights: &[f64],
-    scales: &[f64],
-    points: &[f64],
-    offsets: &[usize],
     listed: &[usize],
-    anchor: usize,
     work: &mut [f64],
+    anchor: usize,
     from: usize,
     into: usize,
-    p: usize,
-    w: f64,
+    p: Span,
+    t: f64,
 )
-    ghost { Network }
-    requires { λ net. ⌜ lent n m b e (now ends) (now rays) (now weights) (now scales) (now points) (now offsets) (now listed) ≡ net ⌝ }
-    requires { λ net. ⌜ Posed net (now work) ⌝ }
-    requires { λ net. ⌜ Ordered n from into (length (now work)) ⌝ }
-    requires { λ net. ⌜ p < m ⌝ }
-    requires { λ net. ⌜ w ≡ pointWeight net p ⌝ }
-    ensures { λ net x. ⌜ now (work .exit) ≡ store vector (now (work .entry)) into (upto (listStep net anchor (load vector (now (work .entry)) from n) p (meanAt net (load vector (now (work .entry)) from n) p)) (listSize net p) (load vector (now (work .entry)) into n)) ⌝ }
+    requires { ⌜ EndsLinked s (now ends) ⌝ }
+    requires { ⌜ ListedLinked s (now listed) ⌝ }
+    requires { ⌜ Laid s from into (length (now work)) ⌝ }
+    requires { ⌜ p .first + p .size ≤ s .bearings ⌝ }
+    ensures { λ x. ⌜ now (work .exit) ≡ applied s from into (spanPass (now (ends .entry)) (now (listed .entry)) anchor p t) (now (work .entry)) ⌝ }
 {
-    let u = point_sum(
-        n,
-        m,
-        b,
-        e,
-        ends,
-        rays,
-        weights,
-        scales,
-        points,
-        offsets,
-        listed,
-        work,
-        from,
-        p,
-    ).div(w);
-    point_gain(
-        n,
-        m,
-        b,
-        e,
-        ends,
-        rays,
-        weights,
-        scales,
-        points,
-        offsets,
-        listed,
-        anchor,
-        work,
-        from,
-        into,
-        p,
-        u,
-    );
+    let u = point_sum(s, ends, listed, work, from, p).div(t);
+    point_gain(s, ends, listed, work, anchor, from, into, p, u);
 }
 
 // The same; of a list of two, three or four each bearing is read once.
 fn list_step(
-    n: usize,
-    m: usize,
-    b: usize,
-    e: usize,
+    s: Shape,
     ends: &[usize],
-    rays: &[f64],
-    weights: &[f64],
-    scales: &[f64],
-    points: &[f64],
-    offsets: &[usize],
     listed: &[usize],
-    anchor: usize,
     work: &mut [f64],
+    anchor: usize,
     from: usize,
     into: usize,
-    p: usize,
-    w: f64,
+    p: Span,
+    t: f64,
 )
-    ghost { Network }
-    requires { λ net. ⌜ lent n m b e (now ends) (now rays) (now weights) (now scales) (now points) (now offsets) (now listed) ≡ net ⌝ }
-    requires { λ net. ⌜ Posed net (now work) ⌝ }
-    requires { λ net. ⌜ Ordered n from into (length (now work)) ⌝ }
-    requires { λ net. ⌜ p < m ⌝ }
-    requires { λ net. ⌜ w ≡ pointWeight net p ⌝ }
-    ensures { λ net x. ⌜ now (work .exit) ≡ store vector (now (work .entry)) into (upto (listStep net anchor (load vector (now (work .entry)) from n) p (meanAt net (load vector (now (work .entry)) from n) p)) (listSize net p) (load vector (now (work .entry)) into n)) ⌝ }
+    requires { ⌜ EndsLinked s (now ends) ⌝ }
+    requires { ⌜ ListedLinked s (now listed) ⌝ }
+    requires { ⌜ Laid s from into (length (now work)) ⌝ }
+    requires { ⌜ p .first + p .size ≤ s .bearings ⌝ }
+    ensures { λ x. ⌜ now (work .exit) ≡ applied s from into (spanPass (now (ends .entry)) (now (listed .entry)) anchor p t) (now (work .entry)) ⌝ }
 {
-    let at = 23 * n + 4 * m;
-    let k = offsets[p];
-    let size = offsets[p + 1] - k;
+    let k = p.first;
+    let size = p.size;
     match size {
-        2 => {
-            let s0 = seen(ends, listed, work, at, from, k);
-            let s1 = seen(ends, listed, work, at, from, k + 1);
-            two_step(work, n, anchor, into, s0, s1, w);
-        }
-        3 => {
-            let s0 = seen(ends, listed, work, at, from, k);
-            let s1 = seen(ends, listed, work, at, from, k + 1);
-            let s2 = seen(ends, listed, work, at, from, k + 2);
-            three_step(work, n, anchor, into, s0, s1, s2, w);
-        }
-        4 => {
-            let s0 = seen(ends, listed, work, at, from, k);
-            let s1 = seen(ends, listed, work, at, from, k + 1);
-            let s2 = seen(ends, listed, work, at, from, k + 2);
-            let s3 = seen(ends, listed, work, at, from, k + 3);
-            four_step(work, n, anchor, into, s0, s1, s2, s3, w);
-        }
-        _ => long_step(
-            n,
-            m,
-            b,
-            e,
-            ends,
-            rays,
-            weights,
-            scales,
-            points,
-            offsets,
-            listed,
-            anchor,
-            work,
-            from,
-            into,
-            p,
-            w,
-        ),
+        2 => two_rows(s, ends, listed, work, anchor, from, into, k, t),
+        3 => three_rows(s, ends, listed, work, anchor, from, into, k, t),
+        4 => four_rows(s, ends, listed, work, anchor, from, into, k, t),
+        _ => long_step(s, ends, listed, work, anchor, from, into, p, t),
     }
 }
 
 // Point p, skipped where its weight is below 1e-12.
 fn point_step(
-    n: usize,
-    m: usize,
-    b: usize,
-    e: usize,
+    s: Shape,
     ends: &[usize],
-    rays: &[f64],
-    weights: &[f64],
-    scales: &[f64],
-    points: &[f64],
     offsets: &[usize],
     listed: &[usize],
-    anchor: usize,
     work: &mut [f64],
+    anchor: usize,
     from: usize,
     into: usize,
     p: usize,
 )
-    ghost { Network }
-    requires { λ net. ⌜ lent n m b e (now ends) (now rays) (now weights) (now scales) (now points) (now offsets) (now listed) ≡ net ⌝ }
-    requires { λ net. ⌜ Posed net (now work) ⌝ }
-    requires { λ net. ⌜ Ordered n from into (length (now work)) ⌝ }
-    requires { λ net. ⌜ p < m ⌝ }
-    ensures { λ net x. ⌜ now (work .exit) ≡ store vector (now (work .entry)) into (pointStep net anchor (load vector (now (work .entry)) from n) p (load vector (now (work .entry)) into n)) ⌝ }
+    requires { ⌜ Linked (links s (now ends) (now offsets) (now listed)) ⌝ }
+    requires { ⌜ Laid s from into (length (now work)) ⌝ }
+    requires { ⌜ p < s .points ⌝ }
+    ensures { λ x. ⌜ now (work .exit) ≡ applied s from into (pointStep (links s (now (ends .entry)) (now (offsets .entry)) (now (listed .entry))) anchor p) (now (work .entry)) ⌝ }
 {
-    let w = work[23 * n + p];
+    let at = weights_at(s);
+    let w = work[at + p];
     if w < 1e-12 {
         return;
     }
     list_step(
-        n,
-        m,
-        b,
-        e,
+        s,
         ends,
-        rays,
-        weights,
-        scales,
-        points,
-        offsets,
         listed,
-        anchor,
         work,
+        anchor,
         from,
         into,
-        p,
+        span_of(s, offsets, p),
         w,
     );
 }
 
 fn points_pass(
-    n: usize,
-    m: usize,
-    b: usize,
-    e: usize,
+    s: Shape,
     ends: &[usize],
-    rays: &[f64],
-    weights: &[f64],
-    scales: &[f64],
-    points: &[f64],
     offsets: &[usize],
     listed: &[usize],
-    anchor: usize,
     work: &mut [f64],
+    anchor: usize,
     from: usize,
     into: usize,
 )
-    ghost { Network }
-    requires { λ net. ⌜ lent n m b e (now ends) (now rays) (now weights) (now scales) (now points) (now offsets) (now listed) ≡ net ⌝ }
-    requires { λ net. ⌜ Posed net (now work) ⌝ }
-    requires { λ net. ⌜ Ordered n from into (length (now work)) ⌝ }
-    ensures { λ net x. ⌜ now (work .exit) ≡ store vector (now (work .entry)) into (upto (pointStep net anchor (load vector (now (work .entry)) from n)) m (load vector (now (work .entry)) into n)) ⌝ }
+    requires { ⌜ Linked (links s (now ends) (now offsets) (now listed)) ⌝ }
+    requires { ⌜ Laid s from into (length (now work)) ⌝ }
+    ensures { λ x. ⌜ now (work .exit) ≡ applied s from into (times (pointStep (links s (now (ends .entry)) (now (offsets .entry)) (now (listed .entry))) anchor) (s .points)) (now (work .entry)) ⌝ }
 {
+    let m = s.points;
     let mut p = 0usize;
     while p < m {
-        point_step(
-            n,
-            m,
-            b,
-            e,
-            ends,
-            rays,
-            weights,
-            scales,
-            points,
-            offsets,
-            listed,
-            anchor,
-            work,
-            from,
-            into,
-            p,
-        );
+        point_step(s, ends, offsets, listed, work, anchor, from, into, p);
         p += 1;
     }
 }
 
+// (camera j - camera i) × the effective weight of row r.
+fn between(s: Shape, work: &[f64], from: usize, r: usize, i: usize, j: usize) -> Vec3
+    requires { ⌜ ShapeSound s ⌝ }
+    requires { ⌜ (r < rows s) × (i < s .cameras) × (j < s .cameras) × (from + 3 * s .cameras ≤ 23 * s .cameras) × (matrixAt s ≤ length (now work)) ⌝ }
+    ensures { λ v. ⌜ v ≡ scale (minus (get vector (now (work .entry)) (from + 3 * j)) (get vector (now (work .entry)) (from + 3 * i))) (weightsIn s (now (work .entry)) .row r) ⌝ }
+{
+    let x = get3(work, from + 3 * j);
+    let y = get3(work, from + 3 * i);
+    pulled(work, effective_at(s) + r, x, y)
+}
+
 // The source of direction d loses (target - source) × its effective weight, and then its target gains it.
 fn direction_step(
-    n: usize,
-    m: usize,
-    b: usize,
-    e: usize,
+    s: Shape,
     ends: &[usize],
-    rays: &[f64],
-    weights: &[f64],
-    scales: &[f64],
-    points: &[f64],
-    offsets: &[usize],
-    listed: &[usize],
-    anchor: usize,
     work: &mut [f64],
+    anchor: usize,
     from: usize,
     into: usize,
     d: usize,
 )
-    ghost { Network }
-    requires { λ net. ⌜ lent n m b e (now ends) (now rays) (now weights) (now scales) (now points) (now offsets) (now listed) ≡ net ⌝ }
-    requires { λ net. ⌜ Posed net (now work) ⌝ }
-    requires { λ net. ⌜ Ordered n from into (length (now work)) ⌝ }
-    requires { λ net. ⌜ d < e ⌝ }
-    ensures { λ net x. ⌜ now (work .exit) ≡ store vector (now (work .entry)) into (directionStep net anchor (load vector (now (work .entry)) from n) d (load vector (now (work .entry)) into n)) ⌝ }
+    requires { ⌜ EndsLinked s (now ends) ⌝ }
+    requires { ⌜ Laid s from into (length (now work)) ⌝ }
+    requires { ⌜ d < s .directions ⌝ }
+    ensures { λ x. ⌜ now (work .exit) ≡ applied s from into (directionStep (s .bearings) (now (ends .entry)) anchor d) (now (work .entry)) ⌝ }
 {
-    let r = b + d;
-    let s = ends[2 * r];
-    let t = ends[2 * r + 1];
-    let x = get3(work, from + 3 * t);
-    let y = get3(work, from + 3 * s);
-    let at = 23 * n + 4 * m;
-    let v = row_pull(work, at, at + b + e, r, x, y);
-    lose(work, n, anchor, into, s, v);
-    gain(work, n, anchor, into, t, v);
+    let r = s.bearings + d;
+    let i = camera_of(s, ends, r);
+    let j = target_of(s, ends, r);
+    let v = between(s, work, from, r, i, j);
+    lose(work, s.cameras, anchor, into, i, v);
+    gain(work, s.cameras, anchor, into, j, v);
 }
 
 fn directions_pass(
-    n: usize,
-    m: usize,
-    b: usize,
-    e: usize,
+    s: Shape,
     ends: &[usize],
-    rays: &[f64],
-    weights: &[f64],
-    scales: &[f64],
-    points: &[f64],
-    offsets: &[usize],
-    listed: &[usize],
-    anchor: usize,
     work: &mut [f64],
+    anchor: usize,
     from: usize,
     into: usize,
 )
-    ghost { Network }
-    requires { λ net. ⌜ lent n m b e (now ends) (now rays) (now weights) (now scales) (now points) (now offsets) (now listed) ≡ net ⌝ }
-    requires { λ net. ⌜ Posed net (now work) ⌝ }
-    requires { λ net. ⌜ Ordered n from into (length (now work)) ⌝ }
-    ensures { λ net x. ⌜ now (work .exit) ≡ store vector (now (work .entry)) into (upto (directionStep net anchor (load vector (now (work .entry)) from n)) e (load vector (now (work .entry)) into n)) ⌝ }
+    requires { ⌜ EndsLinked s (now ends) ⌝ }
+    requires { ⌜ Laid s from into (length (now work)) ⌝ }
+    ensures { λ x. ⌜ now (work .exit) ≡ applied s from into (times (directionStep (s .bearings) (now (ends .entry)) anchor) (s .directions)) (now (work .entry)) ⌝ }
 {
+    let e = s.directions;
     let mut d = 0usize;
     while d < e {
-        direction_step(
-            n,
-            m,
-            b,
-            e,
-            ends,
-            rays,
-            weights,
-            scales,
-            points,
-            offsets,
-            listed,
-            anchor,
-            work,
-            from,
-            into,
-            d,
-        );
+        direction_step(s, ends, work, anchor, from, into, d);
         d += 1;
     }
 }
 
 // The system applied to the field at `from`: camera × 1e-6, then point by point, then direction by direction.
-pub fn apply(
-    n: usize,
-    m: usize,
-    b: usize,
-    e: usize,
+pub(crate) fn apply_core(
+    work: &mut [f64],
+    s: Shape,
     ends: &[usize],
-    rays: &[f64],
-    weights: &[f64],
-    scales: &[f64],
-    points: &[f64],
     offsets: &[usize],
     listed: &[usize],
     anchor: usize,
-    work: &mut [f64],
     from: usize,
     into: usize,
 )
-    ghost { Network }
-    requires { λ net. ⌜ lent n m b e (now ends) (now rays) (now weights) (now scales) (now points) (now offsets) (now listed) ≡ net ⌝ }
-    requires { λ net. ⌜ Posed net (now work) ⌝ }
-    requires { λ net. ⌜ Ordered n from into (length (now work)) ⌝ }
-    ensures { λ net x. ⌜ now (work .exit) ≡ store vector (now (work .entry)) into (reduced net anchor (load vector (now (work .entry)) from n)) ⌝ }
+    requires { ⌜ Linked (links s (now ends) (now offsets) (now listed)) × Laid s from into (length (now work)) ⌝ }
+    ensures { λ x. ⌜ now (work .exit) ≡ reducedIn (links s (now (ends .entry)) (now (offsets .entry)) (now (listed .entry))) anchor from into (now (work .entry)) ⌝ }
 {
-    ridge_pass(work, n, anchor, from, into);
-    points_pass(
-        n,
-        m,
-        b,
-        e,
-        ends,
-        rays,
-        weights,
-        scales,
-        points,
-        offsets,
-        listed,
-        anchor,
-        work,
-        from,
-        into,
-    );
-    directions_pass(
-        n,
-        m,
-        b,
-        e,
-        ends,
-        rays,
-        weights,
-        scales,
-        points,
-        offsets,
-        listed,
-        anchor,
-        work,
-        from,
-        into,
-    );
+    ridge_pass(work, s.cameras, anchor, from, into);
+    points_pass(s, ends, offsets, listed, work, anchor, from, into);
+    directions_pass(s, ends, work, anchor, from, into);
 }

@@ -1,16 +1,19 @@
 // A point that two, three or four cameras see: each of its bearings is read once.
+use crate::camera_of;
 use crate::gain;
+use crate::listed_at;
 use crate::zero;
 use field::Vec3;
 use field::get3;
+use network::Shape;
+use system::work::effective_at;
 ghost use mathlib.Core.Path.{_≡_};
 ghost use Prim.Native.Nat.{_+_, _*_, _<_, _≤_};
 ghost use lib.ListN.{length, getD};
-ghost use lib.Ieee.{nan};
 ghost use Rattle.field.specs.Vec.{origin, plus, minus, scale, over};
-ghost use Rattle.field.specs.Buffer.{get, load, store, vector};
-ghost use Rattle.network.specs.Network.{firstEnd};
-ghost use Rattle.operator.specs.Operator.{gains};
+ghost use Rattle.field.specs.Buffer.{load, store, vector};
+ghost use Rattle.operator.specs.Operator.{gains, spanPass};
+ghost use Rattle.operator.specs.Posed.{EndsLinked, ListedLinked, Within, Laid, Seen, applied};
 
 // What a point has of one bearing: its camera, its effective weight, and the camera's vector.
 pub(crate) struct Sight {
@@ -35,23 +38,16 @@ impl Sight {
     }
 }
 
-// The row at place k of the point lists, where the effective weights stand from `at` on and the cameras' vectors from `from` on.
-pub(crate) fn seen(
-    ends: &[usize],
-    listed: &[usize],
-    work: &[f64],
-    at: usize,
-    from: usize,
-    k: usize,
-) -> Sight
-    requires { ⌜ (k < length (now listed)) × (2 * getD (now listed) k 0 < length (now ends)) ⌝ }
-    requires { ⌜ (at + getD (now listed) k 0 < length (now work)) × (from + 3 * firstEnd (now ends) (getD (now listed) k 0) + 3 ≤ length (now work)) ⌝ }
-    ensures { λ s. ⌜ s .camera ≡ firstEnd (now (ends .entry)) (getD (now (listed .entry)) k 0) ⌝ }
-    ensures { λ s. ⌜ s .weight ≡ getD (now (work .entry)) (at + getD (now (listed .entry)) k 0) nan ⌝ }
-    ensures { λ s. ⌜ s .at ≡ get vector (now (work .entry)) (from + 3 * firstEnd (now (ends .entry)) (getD (now (listed .entry)) k 0)) ⌝ }
+// The bearing at place k of the point lists.
+fn seen(s: Shape, ends: &[usize], listed: &[usize], work: &[f64], from: usize, k: usize) -> Sight
+    requires { ⌜ EndsLinked s (now ends) ⌝ }
+    requires { ⌜ ListedLinked s (now listed) ⌝ }
+    requires { ⌜ Within s from k 1 (length (now work)) ⌝ }
+    ensures { λ t. ⌜ Seen s (now (ends .entry)) (now (work .entry)) from (getD (now (listed .entry)) k 0) t ⌝ }
 {
-    let r = listed[k];
-    let c = ends[2 * r];
+    let r = listed_at(s, listed, k);
+    let c = camera_of(s, ends, r);
+    let at = effective_at(s);
     let v = get3(work, from + 3 * c);
     Sight {
         camera: c,
@@ -86,15 +82,7 @@ fn two_gain(work: &mut [f64], n: usize, anchor: usize, into: usize, s0: Sight, s
 }
 
 // A point of weight w that two cameras see: each gains (camera - their mean) × weight.
-pub(crate) fn two_step(
-    work: &mut [f64],
-    n: usize,
-    anchor: usize,
-    into: usize,
-    s0: Sight,
-    s1: Sight,
-    w: f64,
-)
+fn two_step(work: &mut [f64], n: usize, anchor: usize, into: usize, s0: Sight, s1: Sight, w: f64)
     requires { ⌜ (n ≤ 4096) × (into + 3 * n ≤ length (now work)) ⌝ }
     requires { ⌜ (s0 .camera < n) × (s1 .camera < n) ⌝ }
     ensures { λ r. ⌜ (let u = over (plus (plus origin (scale (s0 .at) (s0 .weight))) (scale (s1 .at) (s1 .weight))) w in now (work .exit) ≡ store vector (now (work .entry)) into (gains anchor (s1 .camera) (scale (minus (s1 .at) u) (s1 .weight)) (gains anchor (s0 .camera) (scale (minus (s0 .at) u) (s0 .weight)) (load vector (now (work .entry)) into n)))) ⌝ }
@@ -104,7 +92,7 @@ pub(crate) fn two_step(
 }
 
 // The same where three see it.
-pub(crate) fn three_step(
+fn three_step(
     work: &mut [f64],
     n: usize,
     anchor: usize,
@@ -124,7 +112,7 @@ pub(crate) fn three_step(
 }
 
 // The same where four see it.
-pub(crate) fn four_step(
+fn four_step(
     work: &mut [f64],
     n: usize,
     anchor: usize,
@@ -142,4 +130,73 @@ pub(crate) fn four_step(
     let u = s3.added(s2.added(two_sum(s0, s1))).div(w);
     two_gain(work, n, anchor, into, s0, s1, u);
     two_gain(work, n, anchor, into, s2, s3, u);
+}
+
+pub(crate) fn two_rows(
+    s: Shape,
+    ends: &[usize],
+    listed: &[usize],
+    work: &mut [f64],
+    anchor: usize,
+    from: usize,
+    into: usize,
+    k: usize,
+    t: f64,
+)
+    requires { ⌜ EndsLinked s (now ends) ⌝ }
+    requires { ⌜ ListedLinked s (now listed) ⌝ }
+    requires { ⌜ Laid s from into (length (now work)) ⌝ }
+    requires { ⌜ k + 2 ≤ s .bearings ⌝ }
+    ensures { λ x. ⌜ now (work .exit) ≡ applied s from into (spanPass (now (ends .entry)) (now (listed .entry)) anchor (record { first = k; size = 2 }) t) (now (work .entry)) ⌝ }
+{
+    let s0 = seen(s, ends, listed, work, from, k);
+    let s1 = seen(s, ends, listed, work, from, k + 1);
+    two_step(work, s.cameras, anchor, into, s0, s1, t);
+}
+
+pub(crate) fn three_rows(
+    s: Shape,
+    ends: &[usize],
+    listed: &[usize],
+    work: &mut [f64],
+    anchor: usize,
+    from: usize,
+    into: usize,
+    k: usize,
+    t: f64,
+)
+    requires { ⌜ EndsLinked s (now ends) ⌝ }
+    requires { ⌜ ListedLinked s (now listed) ⌝ }
+    requires { ⌜ Laid s from into (length (now work)) ⌝ }
+    requires { ⌜ k + 3 ≤ s .bearings ⌝ }
+    ensures { λ x. ⌜ now (work .exit) ≡ applied s from into (spanPass (now (ends .entry)) (now (listed .entry)) anchor (record { first = k; size = 3 }) t) (now (work .entry)) ⌝ }
+{
+    let s0 = seen(s, ends, listed, work, from, k);
+    let s1 = seen(s, ends, listed, work, from, k + 1);
+    let s2 = seen(s, ends, listed, work, from, k + 2);
+    three_step(work, s.cameras, anchor, into, s0, s1, s2, t);
+}
+
+pub(crate) fn four_rows(
+    s: Shape,
+    ends: &[usize],
+    listed: &[usize],
+    work: &mut [f64],
+    anchor: usize,
+    from: usize,
+    into: usize,
+    k: usize,
+    t: f64,
+)
+    requires { ⌜ EndsLinked s (now ends) ⌝ }
+    requires { ⌜ ListedLinked s (now listed) ⌝ }
+    requires { ⌜ Laid s from into (length (now work)) ⌝ }
+    requires { ⌜ k + 4 ≤ s .bearings ⌝ }
+    ensures { λ x. ⌜ now (work .exit) ≡ applied s from into (spanPass (now (ends .entry)) (now (listed .entry)) anchor (record { first = k; size = 4 }) t) (now (work .entry)) ⌝ }
+{
+    let s0 = seen(s, ends, listed, work, from, k);
+    let s1 = seen(s, ends, listed, work, from, k + 1);
+    let s2 = seen(s, ends, listed, work, from, k + 2);
+    let s3 = seen(s, ends, listed, work, from, k + 3);
+    four_step(work, s.cameras, anchor, into, s0, s1, s2, s3, t);
 }

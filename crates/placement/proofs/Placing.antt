@@ -15,7 +15,8 @@ use Rattle.field.proofs.Buffers.{length-load, store-whole, load-flat, vector-la
 use Rattle.network.specs.declared.Refusal.{Refusal}
 use Rattle.network.specs.declared.Verdict.{Verdict}
 use Rattle.network.specs.declared.Verdict.the-variants.{Refused as Stops, Passed}
-use Rattle.network.specs.Network.{Network, Shape}
+use Rattle.network.specs.Network.{Network}
+use Rattle.network.specs.declared.Shape.{Shape}
 use Rattle.network.specs.Sound.{NetworkSound}
 use Rattle.network.specs.Refusals.{verdict, countTests, solveTests, badRoute, workLength, lengthOf}
 use Rattle.network.proofs.Verdicts.{both-true, refused-first, solve-verdict, step-counts, step-verdict, then-passed}

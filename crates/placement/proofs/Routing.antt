@@ -11,7 +11,8 @@ use lib.Ieee.{Float}
 use borrow.Author.Tests.{ltb-false, le-ltb, ne-eqb, le-leb, lt-leb}
 use Rattle.field.specs.declared.Vec3.{Vec3}
 use Rattle.network.specs.declared.Refusal.{Refusal}
-use Rattle.network.specs.Network.{Network, Shape, rows}
+use Rattle.network.specs.Network.{Network, rows}
+use Rattle.network.specs.declared.Shape.{Shape}
 use Rattle.network.specs.Sound.{NetworkSound}
 use Rattle.network.specs.Refusals.{badRoute, denseRows, workLength}
 use Rattle.network.proofs.Verdicts.{neither}

@@ -7,7 +7,8 @@ use Rattle.field.specs.declared.Vec3.{Vec3}
 use Rattle.network.specs.declared.Refusal.{Refusal}
 use Rattle.network.specs.declared.Verdict.{Verdict}
 use Rattle.network.specs.declared.Verdict.the-variants.{Refused, Passed}
-use Rattle.network.specs.Network.{Network, Shape}
+use Rattle.network.specs.Network.{Network}
+use Rattle.network.specs.declared.Shape.{Shape}
 use Rattle.network.specs.Refusals.{verdict, solveTests, workLength}
 use Rattle.system.specs.System.{anchor}
 use Rattle.iterative.specs.Method.{Run, going, ended, failed, solution}

@@ -14,7 +14,7 @@ use Rattle.field.proofs.Counting.{lowest-none, lowest-is, none-of, found}
 use Rattle.network.specs.Lists.{none, absent}
 use Rattle.system.specs.declared.CameraTerm.{CameraTerm}
 use Rattle.system.specs.System.{minusOne, degreeAt, greatest, orZero, anchorOf}
-use Rattle.system.proofs.Order.{lt-irreflexive, lt-numbers, lt-past, lt-trans}
+use Rattle.double.proofs.Less.{lt-irreflexive, lt-numbers, lt-past, lt-trans}
 
 -- ---- none
 

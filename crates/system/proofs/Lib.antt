@@ -1,4 +1,3 @@
-pub mod Order
 pub mod Anchor
 pub mod Terms
 pub mod Kept

@@ -4,7 +4,8 @@ use mathlib.Core.List.{List, [], _∷_}
 use lib.Ieee.{nan}
 use lib.ListN.{getD}
 use Rattle.field.specs.Buffer.{Cell}
-use Rattle.network.specs.Network.{Shape, rows}
+use Rattle.network.specs.Network.{rows}
+use Rattle.network.specs.declared.Shape.{Shape}
 use Rattle.system.specs.declared.CameraTerm.{CameraTerm}
 
 -- n camera terms of five doubles, then six fields of n vectors

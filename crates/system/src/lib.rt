@@ -1,6 +1,7 @@
 // The system of the linear step: effective weights, point sums, assembly, anchor.
 mod assembly;
 mod points;
+pub mod work;
 
 use assembly::assemble;
 use assembly::pick_anchor;

@@ -11,7 +11,7 @@ mul-apply-2 : tie.Need-mul-apply-2
 mul-apply-2 c = search needs
 
 apply-requires : tie.Need-apply-requires
-apply-requires c κs = (c .before .before .before .before .before .before .before .before .before .pre .posed, record { few = omega (arith, c .before .before .before .before .before .before .before .before .before .pre .posed .sound .ends .shape); first = omega arith; apart = omega arith; last = omega arith; room = omega (arith, c .before .before .before .before .before .before .before .before .before .pre .posed .room) })
+apply-requires c κs = (search needs, omega arith)
 
 mul-subtract : tie.Need-mul-subtract
 mul-subtract c = search needs
@@ -35,7 +35,7 @@ same-length : tie.Need-same-length
 same-length c = search needs
 
 returns : tie.Need-returns
-returns c = settled-done _ _ _ _ _ (c .before .before .before .before .before .before .before .before .before .before .before .before .before .before .before .before .before .before .pre) (c .before .before .before .before .before .before .before .before .apply .ensures) (c .before .before .before .before .subtract .ensures) _ (c .field-dot .ensures)
+returns c = settled-done _ _ _ _ _ _ _ _ (c .before .before .before .before .before .before .before .before .before .before .before .before .before .before .pre .1) (c .before .before .before .before .before .before .before .before .apply .ensures) (c .before .before .before .before .subtract .ensures) _ (c .field-dot .ensures)
 
 pub residual-spec : {M : Type 1} → statement M
 residual-spec =

@@ -13,7 +13,7 @@ bound-requires : tie.Need-bound-requires
 bound-requires c κs = search needs
 
 rounds-requires : tie.Need-rounds-requires
-rounds-requires c κs = (c .before .before .before .before .before .before .before .before .before .before .before .before .pre .0, (c .bound .ensures ∙ ap boundOf (c .before .before .before .before .before .before .before .before .before .before .before .before .pre .1 .0), c .before .before .before .before .before .before .before .before .before .before .before .before .pre .1 .1))
+rounds-requires c κs = let p = c .before .before .before .before .before .before .before .before .pre in (p .0, (p .1 .0, (c .bound .ensures ∙ ap boundOf (p .1 .1 .0), p .1 .1 .1)))
 
 same-length : tie.Need-same-length
 same-length c = search needs

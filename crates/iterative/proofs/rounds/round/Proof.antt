@@ -1,33 +1,27 @@
-use Rattle.iterative.proofs.Turns.{applied-kept, round-done}
-use Rattle.iterative.proofs.Keeping.{kept-then}
+use Rattle.iterative.proofs.Turns.{bounded-after, rounded-done}
 use native.Mathlib.Omega.{arith}
 use borrow.Author.Needs.{needs}
 use Rattle.iterative.proofs.rounds.round.Statement.{statement}
 use Rattle.iterative.proofs.rounds.round.Tie as tie
 
-mul-apply : tie.Need-mul-apply
-mul-apply c = search needs
+search-at-requires : tie.Need-search-at-requires
+search-at-requires c κs = search needs
 
-mul-apply-2 : tie.Need-mul-apply-2
-mul-apply-2 c = search needs
+applied-at-requires : tie.Need-applied-at-requires
+applied-at-requires c κs = search needs
 
 apply-requires : tie.Need-apply-requires
-apply-requires c κs = (c .before .before .before .before .before .before .before .before .before .pre .0 .posed, record { few = omega (arith, c .before .before .before .before .before .before .before .before .before .pre .0 .posed .sound .ends .shape); first = omega arith; apart = omega arith; last = omega arith; room = omega (arith, c .before .before .before .before .before .before .before .before .before .pre .0 .posed .room) })
+apply-requires c κs = (search needs, omega arith)
 
 step-requires : tie.Need-step-requires
-step-requires c κs =
-    let K = applied-kept _ _ _ _ (c .before .before .before .before .before .before .before .before .before .before .before .before .before .pre .0) (c .before .before .before .apply .ensures) in
-    (record { few = omega (arith, c .before .before .before .before .before .before .before .before .before .before .before .before .before .pre .0 .posed .sound .ends .shape); room = omega (arith, c .before .before .before .before .before .before .before .before .before .before .before .before .before .pre .0 .posed .room, K .outside .size) }, (rw (K .right) (c .before .before .before .before .before .before .before .before .before .before .before .before .before .pre .1 .0), c .before .before .before .before .before .before .before .before .before .before .before .before .before .pre .1 .1))
+step-requires c κs = (omega arith, (search bounded-after, search needs))
 
 same-length : tie.Need-same-length
 same-length c = search needs
 
 returns : tie.Need-returns
-returns c = record {
-  run = round-done _ _ _ _ (c .before .before .before .before .before .before .before .before .before .before .before .before .before .before .before .before .pre .0) (c .before .before .before .before .before .before .apply .ensures) (c .before .before .step .last .0) _ (c .before .before .step .result) (c .before .before .step .ensures .run _);
-  kept = kept-then (applied-kept _ _ _ _ (c .before .before .before .before .before .before .before .before .before .before .before .before .before .before .before .before .pre .0) (c .before .before .before .before .before .before .apply .ensures)) (c .before .before .step .ensures .kept);
-}
+returns c = search rounded-done
 
 pub round-spec : {M : Type 1} → statement M
 round-spec =
-    tie.close (tie.spec mul-apply mul-apply-2 apply-requires step-requires same-length returns)
+    tie.close (tie.spec search-at-requires applied-at-requires apply-requires step-requires same-length returns)

@@ -5,39 +5,15 @@ use borrow.Author.Needs.{needs}
 use Rattle.operator.proofs.short.four_step.Statement.{statement}
 use Rattle.operator.proofs.short.four_step.Tie as tie
 
-two-sum-requires : tie.Need-two-sum-requires
-two-sum-requires c κs = search needs
-
-added-requires : tie.Need-added-requires
-added-requires c κs = search needs
-
-added-requires-2 : tie.Need-added-requires-2
-added-requires-2 c κs = search needs
-
-div-requires : tie.Need-div-requires
-div-requires c κs = search needs
-
-two-gain-requires : tie.Need-two-gain-requires
-two-gain-requires c κs = search needs
-
-two-gain-requires-2 : tie.Need-two-gain-requires-2
-two-gain-requires-2 c κs = search needs
-
-same-length : tie.Need-same-length
-same-length c = search needs
-
-returns : tie.Need-returns
-returns c = let d = c .before .before .before .before .before .before .before .before .before .before .before .before .before in both-stored (d .args .work .now) _ _ (d .args .into) (d .args .n) _ _ (two-kept _ _ _ _) (two-kept _ _ _ _) (c .before .before .before .before .before .before .two-gain .ensures) (c .before .before .two-gain2 .ensures) (omega arith) ∙ rw (c .before .before .before .before .before .before .before .before .div .ensures, c .before .before .before .before .before .before .before .before .before .added2 .ensures, c .before .before .before .before .before .before .before .before .before .before .added .ensures, c .before .before .before .before .before .before .before .before .before .before .before .two-sum .ensures)
-
 pub four-step-spec : {M : Type 1} → statement M
 four-step-spec =
     tie.close
     (tie.spec
-    two-sum-requires
-    added-requires
-    added-requires-2
-    div-requires
-    two-gain-requires
-    two-gain-requires-2
-    same-length
-    returns)
+    (λ c κs. search needs)
+    (λ c κs. search needs)
+    (λ c κs. search needs)
+    (λ c κs. search needs)
+    (λ c κs. search needs)
+    (λ c κs. search needs)
+    (λ c. search needs)
+    (λ c. let d = c .before .before .before .before .before .before .before .before .before .before .before .before .before in both-stored (d .args .work .now) _ _ (d .args .into) (d .args .n) _ _ (two-kept _ _ _ _) (two-kept _ _ _ _) (c .before .before .before .before .before .before .two-gain .ensures) (c .before .before .two-gain2 .ensures) (omega arith) ∙ rw (c .before .before .before .before .before .before .before .before .div .ensures, c .before .before .before .before .before .before .before .before .before .added2 .ensures, c .before .before .before .before .before .before .before .before .before .before .added .ensures, c .before .before .before .before .before .before .before .before .before .before .before .two-sum .ensures)))

@@ -4,17 +4,11 @@ use borrow.Author.Needs.{needs}
 use Rattle.operator.proofs.short.two_gain.Statement.{statement}
 use Rattle.operator.proofs.short.two_gain.Tie as tie
 
-push-requires : tie.Need-push-requires
-push-requires c κs = search needs
-
-push-requires-2 : tie.Need-push-requires-2
-push-requires-2 c κs = search needs
-
-same-length : tie.Need-same-length
-same-length c = search needs
-
-returns : tie.Need-returns
-returns c = let d = c .before .before .before .before .before .before .before .before .before in both-stored (d .args .work .now) _ _ (d .args .into) (d .args .n) _ _ (one-kept _ _ _) (one-kept _ _ _) (c .before .before .before .before .before .before .push .ensures) (c .before .before .push2 .ensures) (omega arith)
-
 pub two-gain-spec : {M : Type 1} → statement M
-two-gain-spec = tie.close (tie.spec push-requires push-requires-2 same-length returns)
+two-gain-spec =
+    tie.close
+    (tie.spec
+    (λ c κs. search needs)
+    (λ c κs. search needs)
+    (λ c. search needs)
+    (λ c. let d = c .before .before .before .before .before .before .before .before .before in both-stored (d .args .work .now) _ _ (d .args .into) (d .args .n) _ _ (one-kept _ _ _) (one-kept _ _ _) (c .before .before .before .before .before .before .push .ensures) (c .before .before .push2 .ensures) (omega arith)))

@@ -10,6 +10,7 @@ use lib.Dec.{ltb}
 use lib.IntN.{ℤ}
 use lib.Ieee.{Float, nan, inf, fin, up, down, lt, below, isNan}
 use lib.Ieee.Fits.{down-pos}
+use Rattle.double.proofs.Truth.{both-true}
 
 -- ---- signed numbers
 
@@ -98,20 +99,16 @@ module _ (s t u : Bool) (m n k : ℕ) (e d f : ℤ) where
   second-third : lt (fin t n d) (fin u k f) ≡ below t (on n d e f) u (on k f e d)
   second-third = compared t u n k d f e ∙ ap₂ (λ (x y : ℕ). below t x u y) (on-swap n d f e) (on-swap k f d e)
 
-both : (a b : Bool) → (a && b) ≡ true → (a ≡ true) × (b ≡ true)
-both true b h = (refl, h)
-both false b h = absurd (false≢true h)
-
 -- y, which is no NaN, is above the lower of two or below the greater
 pub lt-past : (x y z : Float) → lt x z ≡ true → isNan y ≡ false → lt x y ≡ false → lt y z ≡ true
 unfolding lt isNan
 lt-past nan y z p i q = absurd (false≢true p)
 lt-past (inf s) nan z p i q = absurd (true≢false i)
 lt-past (inf s) (inf t) nan p i q = absurd (false≢true p)
-lt-past (inf s) (inf t) (inf u) p i q = let w = both s (not u) p in let v = rw (w .0) at q in rw (not-false t v) (w .1)
+lt-past (inf s) (inf t) (inf u) p i q = let w = both-true s (not u) p in let v = rw (w .0) at q in rw (not-false t v) (w .1)
 lt-past (inf s) (inf t) (fin u k f) p i q = let v = rw p at q in not-false t v
 lt-past (inf s) (fin t n d) nan p i q = absurd (false≢true p)
-lt-past (inf s) (fin t n d) (inf u) p i q = absurd (true≢false (sym (both s (not u) p .0) ∙ q))
+lt-past (inf s) (fin t n d) (inf u) p i q = absurd (true≢false (sym (both-true s (not u) p .0) ∙ q))
 lt-past (inf s) (fin t n d) (fin u k f) p i q = absurd (true≢false (sym p ∙ q))
 lt-past (fin s m e) nan z p i q = absurd (true≢false i)
 lt-past (fin s m e) (inf t) nan p i q = absurd (false≢true p)
@@ -128,14 +125,14 @@ unfolding lt
 lt-trans nan y z p q = absurd (false≢true p)
 lt-trans (inf s) nan z p q = absurd (false≢true p)
 lt-trans (inf s) (inf t) nan p q = absurd (false≢true q)
-lt-trans (inf s) (inf t) (inf u) p q = rw (both s (not t) p .0) (both t (not u) q .1)
-lt-trans (inf s) (inf t) (fin u k f) p q = both s (not t) p .0
+lt-trans (inf s) (inf t) (inf u) p q = rw (both-true s (not t) p .0) (both-true t (not u) q .1)
+lt-trans (inf s) (inf t) (fin u k f) p q = both-true s (not t) p .0
 lt-trans (inf s) (fin t n d) nan p q = absurd (false≢true q)
 lt-trans (inf s) (fin t n d) (inf u) p q = rw p q
 lt-trans (inf s) (fin t n d) (fin u k f) p q = p
 lt-trans (fin s m e) nan z p q = absurd (false≢true p)
 lt-trans (fin s m e) (inf t) nan p q = absurd (false≢true q)
-lt-trans (fin s m e) (inf t) (inf u) p q = both t (not u) q .1
+lt-trans (fin s m e) (inf t) (inf u) p q = both-true t (not u) q .1
 lt-trans (fin s m e) (inf t) (fin u k f) p q = absurd (false≢true (sym (not-true t p) ∙ q))
 lt-trans (fin s m e) (fin t n d) nan p q = absurd (false≢true q)
 lt-trans (fin s m e) (fin t n d) (inf u) p q = q

@@ -1,0 +1,14 @@
+use Rattle.operator.proofs.Standing.{target-in}
+use borrow.Author.Needs.{needs}
+use Rattle.operator.proofs.target_of.Statement.{statement}
+use Rattle.operator.proofs.target_of.Tie as tie
+
+pub target-of-spec : {M : Type 1} → statement M
+target-of-spec =
+    tie.close
+    (tie.spec
+    (λ c. search needs)
+    (λ c. search needs)
+    (λ c. search needs)
+    (λ c. search needs)
+    (λ c. search target-in))
