@@ -9,15 +9,16 @@ use native.Mathlib.Nat.{eq-or-lt-of-le, le-of-suc-le-suc}
 use native.Mathlib.Numerals.{add-one}
 use native.Mathlib.Decide.{decLt}
 use native.Mathlib.Omega.{arith}
-use lib.ListN.{getD}
+use lib.ListN.{getD, length}
 use lib.Dec.{eqb, leb}
-use borrow.Author.Tests.{ltb-false, leb-false, eqb-true, not-false, lt-ltb, eq-eqb, ne-eqb}
+use borrow.Author.Tests.{ltb-false, leb-false, eqb-true, not-false, not-true, lt-ltb, eq-eqb, ne-eqb}
 use Rattle.field.specs.declared.Place.{Place}
 use Rattle.field.specs.declared.Place.the-variants.{At, Nowhere}
+use Rattle.field.specs.Count.{lowest}
 use Rattle.field.proofs.Counting.{none-of, lowest-none}
 use Rattle.network.specs.Lists.{absent, none, falls, offsetsRise, misplaced, disordered, named, miscounted, listsHold}
-use Rattle.network.specs.Sound.{OffsetsSound}
-use Rattle.network.proofs.Verdicts.{both-true, neither}
+use Rattle.double.proofs.Truth.{both-true, neither}
+use Rattle.network.specs.inner.Sound.{OffsetsSound}
 
 -- ---- none
 
@@ -144,14 +145,14 @@ rising : (offsets : List ℕ) (p : ℕ) → falls offsets p ≡ false → getD o
 unfolding falls
 rising offsets p e = ltb-false _ _ e
 
-pub offsets-sound : (m b : ℕ) (offsets : List ℕ) → offsetsRise m b offsets ≡ true → OffsetsSound m b offsets
+pub offsets-sound : (m b : ℕ) (offsets : List ℕ) → length offsets ≡ m + 1 → offsetsRise m b offsets ≡ true → OffsetsSound m b offsets
 unfolding offsetsRise
-offsets-sound m b offsets e =
+offsets-sound m b offsets size e =
     let h = both-true _ _ e in
     let k = both-true _ _ (h .1) in
     let end : getD offsets m 0 ≡ b = eqb-true _ _ (k .0) in
     let rises : (p : ℕ) → p < m → getD offsets p 0 ≤ getD offsets (p + 1) 0 = λ p l. rising offsets p (none-each _ m (k .1) p l) in
-    record { start = eqb-true _ _ (h .0); end = end; rises = rises; within = λ p l. rw end at (climbs offsets m rises p l) }
+    record { size = size; start = eqb-true _ _ (h .0); end = end; rises = rises; within = λ p l. rw end at (climbs offsets m rises p l) }
 
 -- place k of the lists lies under some point
 under : (offsets : List ℕ) (m k : ℕ) → getD offsets 0 0 ≡ 0 → k < getD offsets m 0 → (p : ℕ) × (p < m) × (getD offsets p 0 ≤ k) × (k < getD offsets (p + 1) 0)
@@ -226,18 +227,23 @@ third-follows true true z h = sym (h refl refl)
 third-follows true false z h = refl
 third-follows false y z h = refl
 
-pub lists-hold : (m b : ℕ) (ends offsets listed : List ℕ) → (offsetsRise m b offsets && none (disordered b ends offsets listed) m) ≡ listsHold m b ends offsets listed
-unfolding listsHold
-lists-hold m b ends offsets listed = third-follows _ _ _ (λ h t. counted m b ends offsets listed (offsets-sound m b offsets h) t)
+module _ (m b : ℕ) (ends offsets listed : List ℕ) (size : length offsets ≡ m + 1) where
+  lists-hold : (offsetsRise m b offsets && none (disordered b ends offsets listed) m) ≡ listsHold m b ends offsets listed
+  unfolding listsHold
+  lists-hold = third-follows _ _ _ (λ h t. counted m b ends offsets listed (offsets-sound m b offsets size h) t)
 
-pub lists-parts : (m b : ℕ) (ends offsets listed : List ℕ) → listsHold m b ends offsets listed ≡ true → OffsetsSound m b offsets × (none (disordered b ends offsets listed) m ≡ true)
-lists-parts m b ends offsets listed e =
-    let h = both-true _ _ (lists-hold m b ends offsets listed ∙ e) in
-    (offsets-sound m b offsets (h .0), h .1)
+  pub lists-parts : listsHold m b ends offsets listed ≡ true → OffsetsSound m b offsets × (none (disordered b ends offsets listed) m ≡ true)
+  lists-parts e =
+      let h = both-true _ _ (lists-hold ∙ e) in
+      (offsets-sound m b offsets size (h .0), h .1)
 
--- the rule, where its first part is tested first
-pub lists-fall : (m b : ℕ) (ends offsets listed : List ℕ) {x : Bool} → x ≡ offsetsRise m b offsets → x ≡ false → false ≡ listsHold m b ends offsets listed
-lists-fall m b ends offsets listed e f = ap (λ t. t && none (disordered b ends offsets listed) m) (sym f ∙ e) ∙ lists-hold m b ends offsets listed
+  pub offsets-rise-sound : {x : Bool} → x ≡ offsetsRise m b offsets → not x ≡ false → OffsetsSound m b offsets
+  offsets-rise-sound e f = offsets-sound m b offsets size (sym e ∙ not-false _ f)
 
-pub lists-order : (m b : ℕ) (ends offsets listed : List ℕ) {x y : Bool} → x ≡ offsetsRise m b offsets → x ≡ true → y ≡ none (disordered b ends offsets listed) m → y ≡ listsHold m b ends offsets listed
-lists-order m b ends offsets listed e t h = ap₂ _&&_ (sym t ∙ e) h ∙ lists-hold m b ends offsets listed
+  -- the rule, where its first part is tested first
+  pub lists-fall : {x : Bool} → x ≡ offsetsRise m b offsets → not x ≡ true → false ≡ listsHold m b ends offsets listed
+  lists-fall e f = ap (λ t. t && none (disordered b ends offsets listed) m) (sym (not-true _ f) ∙ e) ∙ lists-hold
+
+  pub lists-order : {x y : Bool} {p : Place} → x ≡ offsetsRise m b offsets → not x ≡ false → p ≡ lowest (disordered b ends offsets listed) m → y ≡ absent p → y ≡ listsHold m b ends offsets listed
+  unfolding none
+  lists-order e t q h = h ∙ ap absent q ∙ ap₂ _&&_ (sym (not-false _ t) ∙ e) refl ∙ lists-hold

@@ -1,6 +1,6 @@
--- What a call knows whose tests refuse nothing. Assumes nothing.
+-- What a call knows whose tests refuse nothing, stage by stage. Assumes nothing.
 use mathlib.Core.Path.{_≡_, refl, sym, ap, ap₂, _∙_}
-use mathlib.Core.List.{List, [], _∷_}
+use mathlib.Core.List.{List, [], _∷_, _++_}
 use mathlib.Core.Bool.{Bool, true, false, cond, not, _&&_, _||_, true≢false}
 use Prim.Native.Nat.{ℕ, _+_, _-_, _*_, _≤_, _<_}
 use native.Mathlib.Nat.{mul-le-mul}
@@ -10,36 +10,51 @@ use lib.Dec.{eqb, ltb}
 use lib.Ieee.{Float, nan, lt}
 use lib.Ieee.Scale.{finite}
 use borrow.Author.Tests.{ltb-false, leb-false, eqb-true, eqb-false, not-false, lt-ltb, le-ltb, le-leb, eq-eqb}
+use Rattle.double.proofs.Truth.{both-true, neither}
 use Rattle.field.specs.declared.Vec3.{Vec3}
 use Rattle.field.specs.declared.Place.the-variants.{Nowhere}
-use Rattle.field.specs.Vec.{Axis, X, Y, Z, on, null}
+use Rattle.field.specs.Vec.{Axis, X, Y, Z, on, null, isFinite}
 use Rattle.field.specs.Buffer.{get, vector}
 use Rattle.field.proofs.Counting.{none-of}
-use Rattle.network.specs.declared.Refusal.{Refusal}
+use Rattle.network.specs.declared.Shape.{Shape}
 use Rattle.network.specs.declared.Verdict.{Verdict}
-use Rattle.network.specs.declared.Verdict.the-variants.{Refused, Passed}
-use Rattle.network.specs.declared.Length.the-variants.{Refused as NoLength, Of}
-use Rattle.network.specs.Network.{Shape, Graph, Network, graph, rows}
-use Rattle.network.specs.Refusals.{test, verdict, Section, section, running, badWeight, badScale, isFinite, badVector, badRow, stepTests, solveTests, badCameras, badCounts, countTests, endsFit, raysFit, pointsFit, networkFits, badRoute, denseRows, workLength, lengthIf, lengthOf, strays, loops, endTests, graphTests}
-use Rattle.network.specs.Sound.{ShapeSound, EndsSound, GraphSound, LengthsSound, NetworkSound}
-use Rattle.network.proofs.Verdicts.{both-true, neither, then-passed, test-passed, test-at-passed, counts-verdict, ends-verdict, graph-verdict, step-verdict, solve-verdict}
+use Rattle.network.specs.declared.Verdict.the-variants.{Passed}
+use Rattle.network.specs.Network.{Graph, Network, linksOf, links, rows, firstEnd, secondEnd}
+use Rattle.network.specs.Lists.{listsHold}
+use Rattle.network.specs.Refusals.{verdict, test, testAt, Section, running, badWeight, badScale, badVector, badRow, badCameras, badCounts, countTests, endsFit, raysFit, vectorsFit, listsFit, contentFits, networkFits, lengthTests, strays, loops, endTests, listTests, weightTests, rowSections, domainTests, badRoute, routeTests, denseRows, graphRowTests, networkRowTests}
+use Rattle.network.specs.inner.Sound.{ShapeSound, DomainLengths, ContentLengths, NetworkLengths, EndsSound, OffsetsSound, ListedSound, LinksSound, GraphSound, NetworkSound}
+use Rattle.network.proofs.Verdicts.{first-passed, stage-passed, verdict-one, test-passed, test-at-passed}
 use Rattle.network.proofs.Sections.{running-passed}
 use Rattle.network.proofs.PointLists.{lists-parts, is-bearing, own-point, ascends, once}
 
--- 1 and 2
+-- what a test of one list says
+only : (v : Verdict) → verdict (v ∷ []) ≡ Passed → v ≡ Passed
+only v e = sym (verdict-one v) ∙ e
+
+-- ---- 1 and 2
+
 pub counts-sound : (s : Shape) → verdict (countTests s) ≡ Passed → ShapeSound s
-unfolding badCameras badCounts
+unfolding countTests badCameras badCounts
 counts-sound s e =
-    let h = then-passed _ _ (sym (counts-verdict s) ∙ e) in
+    let h = first-passed _ _ e in
     let a = neither _ _ (test-passed 1 _ (h .0)) in
-    let b = neither (ltb 65536 (s .points)) _ (test-passed 2 _ (h .1)) in
+    let b = neither (ltb 65536 (s .points)) _ (test-passed 2 _ (only _ (h .1))) in
     let d = neither (ltb 262144 (s .bearings)) (ltb 65536 (s .directions)) (b .1) in
     let some : s .cameras ≡ 0 → ⊥ = eqb-false _ _ (a .0) in
     record { some = omega (arith, some); cameras = ltb-false _ _ (a .1); points = ltb-false _ _ (b .0); bearings = ltb-false _ _ (d .0); directions = ltb-false _ _ (d .1) }
 
--- 3
-pub fits : (a fit : Bool) → test 3 (not (a && fit)) ≡ Passed → (a ≡ true) × (fit ≡ true)
-fits a fit e = both-true a fit (not-false _ (test-passed 3 _ e))
+-- a function that made the tests and goes on
+pub counted : {s : Shape} {x : Verdict} → x ≡ verdict (countTests s) → x ≡ Passed → ShapeSound s
+counted {s} e h = counts-sound s (sym e ∙ h)
+
+-- ---- 3
+
+pub lengths-fit : (fit : Bool) → verdict (lengthTests fit) ≡ Passed → fit ≡ true
+unfolding lengthTests
+lengths-fit fit e = not-false _ (test-passed 3 _ (only _ e))
+
+pub measured : {fit f : Bool} {x : Verdict} → x ≡ verdict (lengthTests fit) → x ≡ Passed → fit ≡ f → f ≡ true
+measured e h k = sym k ∙ lengths-fit _ (sym e ∙ h)
 
 pub ends-fit : (r : ℕ) (ends : List ℕ) (weights : List Float) → endsFit r ends weights ≡ true → (length ends ≡ 2 * r) × (length weights ≡ r)
 unfolding endsFit
@@ -49,28 +64,32 @@ rays-fit : (r : ℕ) (rays scales : List Float) → raysFit r rays scales ≡ tr
 unfolding raysFit
 rays-fit r rays scales e = let h = both-true _ _ e in (eqb-true _ _ (h .0), eqb-true _ _ (h .1))
 
-points-fit : (m b : ℕ) (positions : List Float) (offsets listed : List ℕ) → pointsFit m b positions offsets listed ≡ true → (length positions ≡ 3 * m) × (length offsets ≡ m + 1) × (length listed ≡ b)
-unfolding pointsFit
-points-fit m b positions offsets listed e =
-    let h = both-true (eqb (length positions) (3 * m)) (eqb (length offsets) (m + 1) && eqb (length listed) b) e in
-    let k = both-true _ _ (h .1) in
-    (eqb-true _ _ (h .0), eqb-true _ _ (k .0), eqb-true _ _ (k .1))
+pub vectors-fit : (n : ℕ) (l : List Float) → vectorsFit n l ≡ true → length l ≡ 3 * n
+unfolding vectorsFit
+vectors-fit n l e = eqb-true _ _ e
 
-pub network-fits : (net : Network) → networkFits net ≡ true → LengthsSound net
-network-fits net e =
-    let h = both-true _ _ e in
-    let k = both-true _ _ (h .1) in
+lists-fit : (m b : ℕ) (offsets listed : List ℕ) → listsFit m b offsets listed ≡ true → (length offsets ≡ m + 1) × (length listed ≡ b)
+unfolding listsFit
+lists-fit m b offsets listed e = let h = both-true _ _ e in (eqb-true _ _ (h .0), eqb-true _ _ (h .1))
+
+pub content-fits : (s : Shape) (ends : List ℕ) (rays weights scales positions : List Float) → contentFits s ends rays weights scales positions ≡ true → ContentLengths s ends rays weights scales positions
+unfolding contentFits
+content-fits s ends rays weights scales positions e =
+    let h = both-true (endsFit (rows s) ends weights) _ e in
+    let k = both-true (raysFit (rows s) rays scales) _ (h .1) in
     let g = ends-fit _ _ _ (h .0) in
     let r = rays-fit _ _ _ (k .0) in
-    let p = points-fit _ _ _ _ _ (k .1) in
-    record { ends = g .0; weights = g .1; rays = r .0; scales = r .1; positions = p .0; offsets = p .1; listed = p .2 }
+    record { ends = g .0; domain = record { rays = r .0; weights = g .1; scales = r .1; positions = vectors-fit _ _ (k .1) } }
 
-pub lengths-sound : (net : Network) (l k : ℕ) (fit : Bool) {x : Verdict} → x ≡ test 3 (not (networkFits net && (eqb l k && fit))) → x ≡ Passed → LengthsSound net × (l ≡ k)
-lengths-sound net l k fit e h =
-    let f = fits (networkFits net) (eqb l k && fit) (sym e ∙ h) in
-    (network-fits net (f .0), eqb-true l k (both-true _ _ (f .1) .0))
+pub network-fits : (net : Network) → networkFits net ≡ true → NetworkLengths net
+unfolding networkFits
+network-fits net e =
+    let h = both-true (contentFits (net .shape) (net .ends) (net .rays) (net .weights) (net .scales) (net .positions)) _ e in
+    let p = lists-fit _ _ _ _ (h .1) in
+    record { content = content-fits _ _ _ _ _ _ (h .0); offsets = p .0; listed = p .1 }
 
--- 4 and 5
+-- ---- 4 and 5
+
 row-tied : (n m b : ℕ) (ends : List ℕ) (r : ℕ) → strays n m b ends r ≡ false → (getD ends (2 * r) 0 < n) × (getD ends (2 * r + 1) 0 < cond (ltb r b) m n)
 unfolding strays
 row-tied n m b ends r e = let h = neither _ _ e in (leb-false _ _ (h .0), leb-false _ _ (h .1))
@@ -79,36 +98,37 @@ row-apart : (b : ℕ) (ends : List ℕ) (r : ℕ) → loops b ends r ≡ false �
 unfolding loops
 row-apart b ends r e h k = true≢false (sym (ap₂ _&&_ (le-leb b r h) (eq-eqb _ _ k)) ∙ e)
 
-pub ends-sound : (s : Shape) (ends : List ℕ) (weights : List Float) → ShapeSound s → endsFit (rows s) ends weights ≡ true → verdict (endTests s ends) ≡ Passed → EndsSound (graph s ends weights)
-ends-sound s ends weights t f e =
-    let h = then-passed _ _ (sym (ends-verdict s ends) ∙ e) in
+pub ends-sound : (s : Shape) (ends : List ℕ) → ShapeSound s → length ends ≡ 2 * rows s → verdict (endTests s ends) ≡ Passed → EndsSound s ends
+unfolding endTests
+ends-sound s ends t f e =
+    let h = first-passed _ _ e in
     let strays-not : (r : ℕ) → r < rows s → strays (s .cameras) (s .points) (s .bearings) ends r ≡ false = none-of _ _ (test-at-passed 4 _ (h .0)) in
-    let loops-not : (r : ℕ) → r < rows s → loops (s .bearings) ends r ≡ false = none-of _ _ (test-at-passed 5 _ (h .1)) in
+    let loops-not : (r : ℕ) → r < rows s → loops (s .bearings) ends r ≡ false = none-of _ _ (test-at-passed 5 _ (only _ (h .1))) in
     record {
       shape = t;
-      ends = ends-fit _ _ _ f .0;
-      weights = ends-fit _ _ _ f .1;
+      size = f;
       camera = λ r l. row-tied _ _ _ ends r (strays-not r l) .0;
       point = λ r l. rw (lt-ltb r (s .bearings) l) at (row-tied _ _ _ ends r (strays-not r (omega arith)) .1);
       target = λ r k l. rw (le-ltb r (s .bearings) k) at (row-tied _ _ _ ends r (strays-not r l) .1);
       apart = λ r k l q. row-apart _ ends r (loops-not r l) k q;
     }
 
--- a graph call whose tests refuse nothing
-pub graph-sound : (g : Graph) (fit : Bool) → verdict (graphTests g fit) ≡ Passed → GraphSound g × (fit ≡ true)
-graph-sound g fit e =
-    let h = then-passed _ _ (sym (graph-verdict g fit) ∙ e) in
-    let k = then-passed _ _ (h .1) in
-    let l = then-passed _ _ (k .1) in
-    let f = fits _ _ (k .0) in (
-      record {
-        ends = ends-sound (g .shape) (g .ends) (g .weights) (counts-sound _ (h .0)) (f .0) (l .0);
-        weight = none-of _ _ (test-at-passed 7 _ (l .1));
-      },
-      f .1,
-    )
+-- ---- 6
 
--- ---- the domain, number by number
+pub links-sound : (s : Shape) (ends offsets listed : List ℕ) → EndsSound s ends → length offsets ≡ s .points + 1 → length listed ≡ s .bearings → verdict (listTests s ends offsets listed) ≡ Passed → LinksSound (links s ends offsets listed)
+unfolding listTests
+links-sound s ends offsets listed E o l e =
+    let t = lists-parts (s .points) (s .bearings) ends offsets listed o (not-false _ (test-passed 6 _ (only _ e))) in
+    record {
+      ends = E;
+      offsets = t .0;
+      listed = record { size = l; bearing = is-bearing _ _ _ _ _ (t .0) (t .1) };
+      own = own-point _ _ _ _ _ (t .0) (t .1);
+      ascends = ascends _ _ _ _ _ (t .0) (t .1);
+      once = once _ _ _ _ _ (t .0) (t .1);
+    }
+
+-- ---- 7: the domain, number by number
 
 pub weight-domain : (weights : List Float) (r : ℕ) → badWeight weights r ≡ false → (finite (getD weights r nan) ≡ true) × (lt (getD weights r nan) null ≡ false)
 unfolding badWeight
@@ -118,7 +138,7 @@ pub scale-domain : (scales : List Float) (r : ℕ) → badScale scales r ≡ fal
 unfolding badScale
 scale-domain scales r e = let h = neither _ _ e in (not-false _ (h .0), not-false _ (h .1))
 
-finite-on : (v : Vec3) → isFinite v ≡ true → (k : Axis) → finite (on k v) ≡ true
+pub finite-on : (v : Vec3) → isFinite v ≡ true → (k : Axis) → finite (on k v) ≡ true
 unfolding isFinite
 finite-on v e X = both-true _ _ e .0
 finite-on v e Y = both-true (finite (v .y)) (finite (v .z)) (both-true (finite (v .x)) _ e .1) .0
@@ -135,57 +155,50 @@ row-domain weights scales rays r e =
     let k = neither (badScale scales r) (badVector rays r) (h .1) in
     (h .0, k .0, k .1)
 
--- ---- calls that are lent the whole network
+weights-sound : (s : Shape) (weights : List Float) → verdict (weightTests s weights) ≡ Passed → (r : ℕ) → r < rows s → badWeight weights r ≡ false
+unfolding weightTests
+weights-sound s weights e = none-of _ _ (test-at-passed 7 _ (only _ e))
 
--- 1 to 7 refuse nothing, and what sections of camera positions there are have no bad place
-pub step-sound : (net : Network) (cameras : List Section) (fit : Bool) → verdict (stepTests net cameras fit) ≡ Passed → NetworkSound net × (fit ≡ true) × (running cameras ≡ Nowhere)
-step-sound net cameras fit e =
-    let s = net .graph .shape in
-    let h = then-passed _ _ (sym (step-verdict net cameras fit) ∙ e) in
-    let k = then-passed _ _ (h .1) in
-    let l = then-passed _ _ (k .1) in
-    let d = then-passed _ _ (l .1) in
-    let f = fits (networkFits net) fit (k .0) in
-    let n = network-fits net (f .0) in
-    let t = lists-parts (s .points) (s .bearings) (net .graph .ends) (net .offsets) (net .listed) (not-false _ (test-passed 6 _ (d .0))) in
-    let rowsOk = running-passed _ _ _ (test-at-passed 7 _ (d .1)) in
-    let pointsOk = running-passed _ _ _ (rowsOk .1) in (
+-- rows, points, and what sections of camera positions there are
+pub domain-sound : (s : Shape) (rays weights scales positions : List Float) (cameras : List Section) → verdict (domainTests (rowSections s rays weights scales positions ++ cameras)) ≡ Passed →
+    ((r : ℕ) → r < rows s → badRow weights scales rays r ≡ false) × ((p : ℕ) → p < s .points → badVector positions p ≡ false) × (running cameras ≡ Nowhere)
+unfolding domainTests
+domain-sound s rays weights scales positions cameras e =
+    let a = running-passed _ _ _ (test-at-passed 7 _ (only _ e)) in
+    let b = running-passed _ _ _ (a .1) in
+    (a .0, b .0, b .1)
+
+-- ---- stages that several calls share
+
+pub graph-sound : (g : Graph) → ShapeSound (g .shape) → endsFit (rows (g .shape)) (g .ends) (g .weights) ≡ true → verdict (graphRowTests g) ≡ Passed → GraphSound g
+unfolding graphRowTests
+graph-sound g s f e =
+    let h = stage-passed (endTests (g .shape) (g .ends)) _ e in
+    let l = ends-fit _ _ _ f in
+    record { ends = ends-sound _ _ s (l .0) (h .0); weights = l .1; weight = weights-sound _ _ (h .1) }
+
+pub network-sound : (net : Network) (cameras : List Section) → ShapeSound (net .shape) → networkFits net ≡ true → verdict (networkRowTests net cameras) ≡ Passed → NetworkSound net × (running cameras ≡ Nowhere)
+unfolding networkRowTests
+network-sound net cameras s f e =
+    let n = network-fits net f in
+    let h = stage-passed (endTests (net .shape) (net .ends)) _ e in
+    let k = stage-passed (listTests (net .shape) (net .ends) (net .offsets) (net .listed)) _ (h .1) in
+    let d = domain-sound (net .shape) (net .rays) (net .weights) (net .scales) (net .positions) cameras (k .1) in
+    let E = ends-sound (net .shape) (net .ends) s (n .content .ends) (h .0) in (
       record {
-        ends = ends-sound s (net .graph .ends) (net .graph .weights) (counts-sound s (h .0)) (both-true _ _ (f .0) .0) (l .0);
-        rays = n .rays;
-        scales = n .scales;
-        positions = n .positions;
-        offsets = n .offsets;
-        listed = n .listed;
-        start = t .0 .start;
-        end = t .0 .end;
-        rises = t .0 .rises;
-        within = t .0 .within;
-        bearing = is-bearing _ _ _ _ _ (t .0) (t .1);
-        own = own-point _ _ _ _ _ (t .0) (t .1);
-        ascends = ascends _ _ _ _ _ (t .0) (t .1);
-        once = once _ _ _ _ _ (t .0) (t .1);
-        row = rowsOk .0;
-        position = pointsOk .0;
+        links = links-sound (net .shape) (net .ends) (net .offsets) (net .listed) E (n .offsets) (n .listed) (k .0);
+        lengths = n;
+        row = d .0;
+        position = d .1;
       },
-      f .1,
-      pointsOk .1,
+      d .2,
     )
 
--- a call that is lent n camera positions too
-pub placed-sound : (net : Network) (cameras : List Float) (fit : Bool) → let n = net .graph .shape .cameras in
-    verdict (stepTests net (section n (badVector cameras) ∷ []) (eqb (length cameras) (3 * n) && fit)) ≡ Passed → NetworkSound net × (length cameras ≡ 3 * n) × ((i : ℕ) → i < n → badVector cameras i ≡ false) × (fit ≡ true)
-placed-sound net cameras fit e =
-    let h = step-sound net _ _ e in
-    let f = both-true _ _ (h .1) in
-    (h .0, eqb-true _ _ (f .0), running-passed _ _ [] (h .2) .0, f .1)
+-- ---- 8
 
-pub solve-sound : (net : Network) (fit : Bool) (route limit : ℕ) → verdict (solveTests net fit route limit) ≡ Passed → (verdict (stepTests net [] fit) ≡ Passed) × (badRoute route limit ≡ false)
-solve-sound net fit route limit e =
-    let h = then-passed _ _ (sym (solve-verdict net fit route limit) ∙ e) in
-    (h .0, test-passed 8 _ (h .1))
-
--- ---- the work buffer
+pub route-sound : (route limit : ℕ) → verdict (routeTests route limit) ≡ Passed → badRoute route limit ≡ false
+unfolding routeTests
+route-sound route limit e = test-passed 8 _ (only _ e)
 
 -- d is within the dense limit, and the dense limit is small
 limit-small : (route limit : ℕ) → badRoute route limit ≡ false → limit ≤ 256
@@ -207,10 +220,30 @@ dense-small n route limit = go (badRoute route limit) (eqb route 2) (ltb limit (
 pub square-small : (d : ℕ) → d ≤ 256 → d * d ≤ 65536
 square-small d h = mul-le-mul h h
 
-pub length-refused : (s : Shape) (route limit : ℕ) {x : Verdict} {r : Refusal} → x ≡ verdict (countTests s) → x ≡ Refused r → NoLength r ≡ lengthOf s route limit
-unfolding lengthOf
-length-refused s route limit e h = sym (ap (λ v. lengthIf v (workLength s route limit)) (sym e ∙ h))
+module _ (n route limit d : ℕ) (a b x : Bool) (ex : x ≡ badRoute route limit) (ea : a ≡ (eqb route 2 || ltb limit (n - 1))) (eb : b ≡ (x || a)) (ed : d ≡ cond b 0 (n - 1)) where
+  pub dense-is : d ≡ denseRows n route limit
+  unfolding denseRows
+  dense-is = rw (← ex, ← ea, ← eb) ed
 
-pub length-of : (s : Shape) (route limit : ℕ) {x : Verdict} {d t : ℕ} → x ≡ verdict (countTests s) → x ≡ Passed → d ≡ denseRows (s .cameras) route limit → t ≡ 23 * s .cameras + 4 * s .points + s .bearings + s .directions + d * d + 3 * d → Of t ≡ lengthOf s route limit
-unfolding lengthOf workLength
-length-of s route limit {t = t} e h f g = rw (sym e ∙ h) (ap Of (rw f at g))
+  pub dense-within : d ≤ 256
+  dense-within = rw dense-is (dense-small n route limit)
+
+-- ---- what is read of the links is in range
+
+pub camera-in : (s : Shape) (ends : List ℕ) (r : ℕ) → EndsSound s ends → r < rows s → firstEnd ends r < s .cameras
+camera-in s ends r E h = E .camera r h
+
+pub point-in : (s : Shape) (ends : List ℕ) (r : ℕ) → EndsSound s ends → r < s .bearings → secondEnd ends r < s .points
+point-in s ends r E h = E .point r h
+
+pub target-in : (s : Shape) (ends : List ℕ) (r : ℕ) → EndsSound s ends → (s .bearings ≤ r) × (r < rows s) → secondEnd ends r < s .cameras
+target-in s ends r E h = E .target r (h .0) (h .1)
+
+pub listed-in : (b : ℕ) (listed : List ℕ) (k : ℕ) → ListedSound b listed → k < b → getD listed k 0 < b
+listed-in b listed k E h = E .bearing k h
+
+pub rises-in : (m b : ℕ) (offsets : List ℕ) (p : ℕ) → OffsetsSound m b offsets → p < m → getD offsets p 0 ≤ getD offsets (p + 1) 0
+rises-in m b offsets p E h = E .rises p h
+
+pub span-in : (m b : ℕ) (offsets : List ℕ) (p : ℕ) → OffsetsSound m b offsets → p < m → getD offsets p 0 + (getD offsets (p + 1) 0 - getD offsets p 0) ≤ b
+span-in m b offsets p E h = omega (arith, E .rises p h, E .within (p + 1) (omega arith))

@@ -1,4 +1,4 @@
 pub mod Network
 pub mod Lists
 pub mod Refusals
-pub mod Sound
+pub mod inner

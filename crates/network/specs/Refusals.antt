@@ -6,18 +6,16 @@ use lib.ListN.{length, getD}
 use lib.Dec.{eqb, ltb, leb}
 use lib.Ieee.{Float, nan, lt}
 use lib.Ieee.Scale.{finite}
-use Rattle.field.specs.declared.Vec3.{Vec3}
 use Rattle.field.specs.declared.Place.{Place}
 use Rattle.field.specs.declared.Place.the-variants.{At, Nowhere}
-use Rattle.field.specs.Vec.{null}
+use Rattle.field.specs.Vec.{null, isFinite}
 use Rattle.field.specs.Count.{lowest, orElse, shift}
 use Rattle.field.specs.Buffer.{get, vector}
 use Rattle.network.specs.declared.Refusal.{Refusal}
 use Rattle.network.specs.declared.Verdict.{Verdict}
 use Rattle.network.specs.declared.Verdict.the-variants.{Refused, Passed}
-use Rattle.network.specs.declared.Length.{Length}
-use Rattle.network.specs.declared.Length.the-variants.{Refused as NoLength, Of}
-use Rattle.network.specs.Network.{Shape, Graph, Network, rows, firstEnd, secondEnd}
+use Rattle.network.specs.declared.Shape.{Shape}
+use Rattle.network.specs.Network.{Graph, Network, rows, firstEnd, secondEnd}
 use Rattle.network.specs.Lists.{listsHold}
 
 -- ---- tests in order
@@ -59,6 +57,8 @@ unfoldable pub running : List Section → Place
 running [] = Nowhere
 running (s ∷ ss) = orElse (lowest (s .bad) (s .count)) (shift (s .count) (running ss))
 
+-- ---- A call's tests are stages, one after another: 1 and 2, then 3, and so on. Each stage is a list of tests.
+
 -- ---- 1 and 2: the counts
 
 -- n is 0 or over 4,096
@@ -72,7 +72,7 @@ badCounts s = ltb 65536 (s .points) || (ltb 262144 (s .bearings) || ltb 65536 (s
 unfoldable pub countTests : Shape → List Verdict
 countTests s = test 1 (badCameras s) ∷ test 2 (badCounts s) ∷ []
 
--- ---- 3: the lengths that a call's slices must have
+-- ---- 3: the lengths that a call's slices must have. A call names those that it is lent.
 
 -- of r rows, their ends and weights
 unfoldable pub endsFit : ℕ → List ℕ → List Float → Bool
@@ -82,20 +82,28 @@ endsFit r ends weights = eqb (length ends) (2 * r) && eqb (length weights) r
 unfoldable pub raysFit : ℕ → List Float → List Float → Bool
 raysFit r rays scales = eqb (length rays) (3 * r) && eqb (length scales) r
 
--- of m points, their positions and the lists that name b bearings
-unfoldable pub pointsFit : ℕ → ℕ → List Float → List ℕ → List ℕ → Bool
-pointsFit m b positions offsets listed =
-    eqb (length positions) (3 * m) && (eqb (length offsets) (m + 1) && eqb (length listed) b)
+-- n vectors
+unfoldable pub vectorsFit : ℕ → List Float → Bool
+vectorsFit n l = eqb (length l) (3 * n)
 
-abbrev pub graphFits : Graph → Bool
-graphFits g = endsFit (rows (g .shape)) (g .ends) (g .weights)
+-- the lists of m points that name b bearings
+unfoldable pub listsFit : ℕ → ℕ → List ℕ → List ℕ → Bool
+listsFit m b offsets listed = eqb (length offsets) (m + 1) && eqb (length listed) b
 
-abbrev pub networkFits : Network → Bool
+-- the slices of a network without its point lists: those of an image
+unfoldable pub contentFits : Shape → List ℕ → List Float → List Float → List Float → List Float → Bool
+contentFits s ends rays weights scales positions =
+    endsFit (rows s) ends weights && (raysFit (rows s) rays scales && vectorsFit (s .points) positions)
+
+-- every slice of the network
+unfoldable pub networkFits : Network → Bool
 networkFits net =
-    let s = net .graph .shape in
-    graphFits (net .graph)
-    && (raysFit (rows s) (net .rays) (net .scales)
-    && pointsFit (s .points) (s .bearings) (net .positions) (net .offsets) (net .listed))
+    let s = net .shape in
+    contentFits s (net .ends) (net .rays) (net .weights) (net .scales) (net .positions)
+    && listsFit (s .points) (s .bearings) (net .offsets) (net .listed)
+
+unfoldable pub lengthTests : Bool → List Verdict
+lengthTests fit = test 3 (not fit) ∷ []
 
 -- ---- 4 and 5: the rows' ends
 
@@ -113,6 +121,11 @@ endTests s ends =
     ∷ testAt 5 (lowest (loops (s .bearings) ends) (rows s))
     ∷ []
 
+-- ---- 6: the point lists
+
+unfoldable pub listTests : Shape → List ℕ → List ℕ → List ℕ → List Verdict
+listTests s ends offsets listed = test 6 (not (listsHold (s .points) (s .bearings) ends offsets listed)) ∷ []
+
 -- ---- 7: the domain
 
 -- a weight that is not finite, or below zero (-0.0 is not)
@@ -123,9 +136,6 @@ badWeight weights r = not (finite (getD weights r nan)) || lt (getD weights r na
 unfoldable pub badScale : List Float → ℕ → Bool
 badScale scales r = not (finite (getD scales r nan)) || not (lt null (getD scales r nan))
 
-unfoldable pub isFinite : Vec3 → Bool
-isFinite v = finite (v .x) && (finite (v .y) && finite (v .z))
-
 -- vector i of a list of them is not finite
 unfoldable pub badVector : List Float → ℕ → Bool
 badVector l i = not (isFinite (get vector l (3 * i)))
@@ -133,56 +143,40 @@ badVector l i = not (isFinite (get vector l (3 * i)))
 unfoldable pub badRow : List Float → List Float → List Float → ℕ → Bool
 badRow weights scales rays r = badWeight weights r || (badScale scales r || badVector rays r)
 
--- rows and old points are counted through; a call that is lent camera positions adds their section
-abbrev pub rowSections : Network → List Section
-rowSections net =
-    let s = net .graph .shape in
-    section (rows s) (badRow (net .graph .weights) (net .scales) (net .rays)) ∷ section (s .points) (badVector (net .positions)) ∷ []
+-- the weight part of 7, which is all that graph calls test
+unfoldable pub weightTests : Shape → List Float → List Verdict
+weightTests s weights = testAt 7 (lowest (badWeight weights) (rows s)) ∷ []
 
--- ---- 8: the route, and the work buffer that it needs
+-- rows and old points are counted through
+abbrev pub rowSections : Shape → List Float → List Float → List Float → List Float → List Section
+rowSections s rays weights scales positions =
+    section (rows s) (badRow weights scales rays) ∷ section (s .points) (badVector positions) ∷ []
+
+unfoldable pub domainTests : List Section → List Verdict
+domainTests sections = testAt 7 (running sections) ∷ []
+
+-- ---- 8: the route
 
 -- route not 1..3 or dense limit over 256
 unfoldable pub badRoute : ℕ → ℕ → Bool
 badRoute route limit = ltb route 1 || (ltb 3 route || ltb 256 limit)
 
+unfoldable pub routeTests : ℕ → ℕ → List Verdict
+routeTests route limit = test 8 (badRoute route limit) ∷ []
+
 -- d: n - 1 where the route may go dense within the limit, else 0; 0 too where 8 would refuse
 unfoldable pub denseRows : ℕ → ℕ → ℕ → ℕ
 denseRows n route limit = cond (badRoute route limit || (eqb route 2 || ltb limit (n - 1))) 0 (n - 1)
 
--- T = 23n + 4m + B + E + d² + 3d
-unfoldable pub workLength : Shape → ℕ → ℕ → ℕ
-workLength s route limit =
-    let d = denseRows (s .cameras) route limit in
-    23 * s .cameras + 4 * s .points + s .bearings + s .directions + d * d + 3 * d
+-- ---- stages that several calls share
 
--- ---- each kind of call
+-- 4, 5 and the weight part of 7: graph calls
+unfoldable pub graphRowTests : Graph → List Verdict
+graphRowTests g = endTests (g .shape) (g .ends) ++ weightTests (g .shape) (g .weights)
 
--- connectivity and parts listing: 1 to 5 and the weight part of 7. `fit` says that the lengths of the call's other buffers fit.
-unfoldable pub graphTests : Graph → Bool → List Verdict
-graphTests g fit =
-    countTests (g .shape)
-    ++ (test 3 (not (graphFits g && fit)) ∷ [])
-    ++ endTests (g .shape) (g .ends)
-    ++ (testAt 7 (lowest (badWeight (g .weights)) (rows (g .shape))) ∷ [])
-
--- dots and scales: 1 to 7, with the sections of camera positions that they are lent
-unfoldable pub stepTests : Network → List Section → Bool → List Verdict
-stepTests net cameras fit =
-    let s = net .graph .shape in
-    countTests s
-    ++ (test 3 (not (networkFits net && fit)) ∷ [])
-    ++ endTests s (net .graph .ends)
-    ++ (test 6 (not (listsHold (s .points) (s .bearings) (net .graph .ends) (net .offsets) (net .listed))) ∷ [])
-    ++ (testAt 7 (running (rowSections net ++ cameras)) ∷ [])
-
--- solve: 1 to 8
-unfoldable pub solveTests : Network → Bool → ℕ → ℕ → List Verdict
-solveTests net fit route limit = stepTests net [] fit ++ (test 8 (badRoute route limit) ∷ [])
-
--- the length of the work buffer that a solve needs, where 1 and 2 pass
-abbrev pub lengthIf : Verdict → ℕ → Length
-lengthIf (Refused r) t = NoLength r
-lengthIf Passed t = Of t
-
-unfoldable pub lengthOf : Shape → ℕ → ℕ → Length
-lengthOf s route limit = lengthIf (verdict (countTests s)) (workLength s route limit)
+-- 4 to 7 of the whole network; a call that is lent camera positions adds their section
+unfoldable pub networkRowTests : Network → List Section → List Verdict
+networkRowTests net cameras =
+    endTests (net .shape) (net .ends)
+    ++ (listTests (net .shape) (net .ends) (net .offsets) (net .listed)
+    ++ domainTests (rowSections (net .shape) (net .rays) (net .weights) (net .scales) (net .positions) ++ cameras))

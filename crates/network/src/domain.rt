@@ -1,5 +1,8 @@
 // 7: the domain.
+use crate::Shape;
+use crate::Verdict;
 use crate::answers::either;
+use crate::answers::refused_at;
 use double::all_finite;
 use double::is_nonnegative;
 use double::is_positive;
@@ -8,9 +11,11 @@ use field::get3;
 ghost use mathlib.Core.Path.{_≡_};
 ghost use Prim.Native.Nat.{_+_, _*_, _<_, _≤_};
 ghost use lib.ListN.{length};
-ghost use mathlib.Core.List.{[], _∷_};
+ghost use mathlib.Core.List.{[], _∷_, _++_};
 ghost use Rattle.field.specs.Count.{lowest};
-ghost use Rattle.network.specs.Refusals.{section, running, badWeight, badScale, badVector, badRow};
+ghost use Rattle.network.specs.Network.{rows};
+ghost use Rattle.network.specs.Refusals.{verdict, section, running, badWeight, badScale, badVector, badRow, rowSections, weightTests, domainTests};
+ghost use Rattle.network.specs.inner.Sound.{ShapeSound, DomainLengths};
 
 // The weight of row r is not finite, or below zero.
 fn bad_weight_at(weights: &[f64], r: usize) -> bool
@@ -21,7 +26,7 @@ fn bad_weight_at(weights: &[f64], r: usize) -> bool
 }
 
 // The lowest of `count` rows whose weight is outside the domain.
-pub(crate) fn find_bad_weight(weights: &[f64], count: usize) -> Place
+fn find_bad_weight(weights: &[f64], count: usize) -> Place
     requires { ⌜ count ≤ length (now weights) ⌝ }
     ensures { λ r. ⌜ r ≡ lowest (badWeight (now (weights .entry))) count ⌝ }
 {
@@ -97,34 +102,90 @@ fn find_bad_row(weights: &[f64], scales: &[f64], rays: &[f64], count: usize) -> 
     Place::Nowhere
 }
 
-// The lowest place outside the domain, counted through `count` rows, m points and k camera positions.
-pub fn find_outside(
-    count: usize,
-    rays: &[f64],
-    weights: &[f64],
-    scales: &[f64],
-    m: usize,
-    points: &[f64],
-    k: usize,
-    cameras: &[f64],
-) -> Place
-    requires { ⌜ (length (now weights) ≡ count) × (length (now scales) ≡ count) × (length (now rays) ≡ 3 * count) ⌝ }
-    requires { ⌜ length (now points) ≡ 3 * m ⌝ }
-    requires { ⌜ length (now cameras) ≡ 3 * k ⌝ }
-    requires { ⌜ (count ≤ 327680) × (m ≤ 65536) × (k ≤ 4096) ⌝ }
-    ensures { λ r. ⌜ r ≡ running (section count (badRow (now (weights .entry)) (now (scales .entry)) (now (rays .entry))) ∷ section m (badVector (now (points .entry))) ∷ section k (badVector (now (cameras .entry))) ∷ []) ⌝ }
+// The lowest place outside the domain, counted through the rows and the points.
+fn find_outside(s: Shape, rays: &[f64], weights: &[f64], scales: &[f64], points: &[f64]) -> Place
+    requires { ⌜ ShapeSound s ⌝ }
+    requires { ⌜ DomainLengths s (now rays) (now weights) (now scales) (now points) ⌝ }
+    ensures { λ r. ⌜ r ≡ running (rowSections s (now (rays .entry)) (now (weights .entry)) (now (scales .entry)) (now (points .entry))) ⌝ }
 {
+    let count = s.bearings + s.directions;
     let row = find_bad_row(weights, scales, rays, count);
     if let Place::At(r) = row {
         return Place::At(r);
     }
-    let point = find_bad_vector(points, m);
+    let point = find_bad_vector(points, s.points);
     if let Place::At(p) = point {
         return Place::At(count + p);
     }
-    let camera = find_bad_vector(cameras, k);
+    Place::Nowhere
+}
+
+// The same, and then through the n cameras.
+fn find_placed_outside(
+    s: Shape,
+    rays: &[f64],
+    weights: &[f64],
+    scales: &[f64],
+    points: &[f64],
+    cameras: &[f64],
+) -> Place
+    requires { ⌜ ShapeSound s ⌝ }
+    requires { ⌜ DomainLengths s (now rays) (now weights) (now scales) (now points) ⌝ }
+    requires { ⌜ length (now cameras) ≡ 3 * s .cameras ⌝ }
+    ensures { λ r. ⌜ r ≡ running (rowSections s (now (rays .entry)) (now (weights .entry)) (now (scales .entry)) (now (points .entry))
+        ++ (section (s .cameras) (badVector (now (cameras .entry))) ∷ [])) ⌝ }
+{
+    let place = find_outside(s, rays, weights, scales, points);
+    if let Place::At(p) = place {
+        return Place::At(p);
+    }
+    let camera = find_bad_vector(cameras, s.cameras);
     if let Place::At(i) = camera {
-        return Place::At(count + (m + i));
+        return Place::At(s.bearings + s.directions + (s.points + i));
     }
     Place::Nowhere
+}
+
+// The weight part of 7.
+pub(crate) fn check_weights(s: Shape, weights: &[f64]) -> Verdict
+    requires { ⌜ length (now weights) ≡ rows s ⌝ }
+    ensures { λ r. ⌜ r ≡ verdict (weightTests s (now (weights .entry))) ⌝ }
+{
+    refused_at(7, find_bad_weight(weights, s.bearings + s.directions))
+}
+
+// 7 of rows and points.
+pub fn check_domain(
+    s: Shape,
+    rays: &[f64],
+    weights: &[f64],
+    scales: &[f64],
+    points: &[f64],
+) -> Verdict
+    requires { ⌜ ShapeSound s ⌝ }
+    requires { ⌜ DomainLengths s (now rays) (now weights) (now scales) (now points) ⌝ }
+    ensures { λ r. ⌜ r ≡ verdict (domainTests (rowSections s (now (rays .entry)) (now (weights .entry)) (now (scales .entry)) (now (points .entry)))) ⌝ }
+{
+    refused_at(7, find_outside(s, rays, weights, scales, points))
+}
+
+// 7 of rows, points and the n cameras.
+pub(crate) fn check_placed_domain(
+    s: Shape,
+    rays: &[f64],
+    weights: &[f64],
+    scales: &[f64],
+    points: &[f64],
+    cameras: &[f64],
+) -> Verdict
+    requires { ⌜ ShapeSound s ⌝ }
+    requires { ⌜ DomainLengths s (now rays) (now weights) (now scales) (now points) ⌝ }
+    requires { ⌜ length (now cameras) ≡ 3 * s .cameras ⌝ }
+    ensures { λ r. ⌜ r ≡ verdict (domainTests (rowSections s (now (rays .entry)) (now (weights .entry)) (now (scales .entry)) (now (points .entry))
+        ++ (section (s .cameras) (badVector (now (cameras .entry))) ∷ []))) ⌝ }
+{
+    refused_at(
+        7,
+        find_placed_outside(s, rays, weights, scales, points, cameras),
+    )
 }

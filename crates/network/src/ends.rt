@@ -1,4 +1,5 @@
 // 4 and 5: the rows' ends.
+use crate::Shape;
 use crate::Verdict;
 use crate::answers::both;
 use crate::answers::choose;
@@ -9,7 +10,7 @@ ghost use mathlib.Core.Path.{_≡_};
 ghost use Prim.Native.Nat.{_+_, _*_, _<_, _≤_};
 ghost use lib.ListN.{length};
 ghost use Rattle.field.specs.Count.{lowest};
-ghost use Rattle.network.specs.Network.{shape};
+ghost use Rattle.network.specs.Network.{rows};
 ghost use Rattle.network.specs.Refusals.{verdict, strays, loops, endTests};
 
 // Row r of n cameras, m points and b bearings has a number that is out of range.
@@ -59,14 +60,14 @@ fn find_loop(b: usize, count: usize, ends: &[usize]) -> Place
 }
 
 // 4 and 5.
-pub fn check_ends(n: usize, m: usize, b: usize, e: usize, ends: &[usize]) -> Verdict
-    requires { ⌜ length (now ends) ≡ 2 * (b + e) ⌝ }
-    ensures { λ r. ⌜ r ≡ verdict (endTests (shape n m b e) (now (ends .entry))) ⌝ }
+pub fn check_ends(s: Shape, ends: &[usize]) -> Verdict
+    requires { ⌜ length (now ends) ≡ 2 * rows s ⌝ }
+    ensures { λ r. ⌜ r ≡ verdict (endTests s (now (ends .entry))) ⌝ }
 {
-    let count = b + e;
-    let stray = refused_at(4, find_stray(n, m, b, count, ends));
+    let count = s.bearings + s.directions;
+    let stray = refused_at(4, find_stray(s.cameras, s.points, s.bearings, count, ends));
     if let Verdict::Refused(r) = stray {
         return Verdict::Refused(r);
     }
-    refused_at(5, find_loop(b, count, ends))
+    refused_at(5, find_loop(s.bearings, count, ends))
 }

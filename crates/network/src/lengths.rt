@@ -1,59 +1,69 @@
-// 3: the lengths of the slices.
+// 3: the lengths of the slices. The counts have been tested, so no product wraps.
+use crate::Shape;
 use crate::Verdict;
 use crate::answers::both;
 use crate::answers::refused_if;
 ghost use mathlib.Core.Path.{_≡_};
-ghost use mathlib.Core.Bool.{not, _&&_};
-ghost use Prim.Native.Nat.{_*_, _≤_};
+ghost use Prim.Native.Nat.{_≤_};
 ghost use lib.ListN.{length};
-ghost use lib.Dec.{eqb};
-ghost use Rattle.network.specs.Refusals.{test, endsFit, raysFit, pointsFit};
+ghost use Rattle.network.specs.Network.{network, rows};
+ghost use Rattle.network.specs.Refusals.{verdict, endsFit, raysFit, vectorsFit, listsFit, contentFits, networkFits, lengthTests};
+ghost use Rattle.network.specs.inner.Sound.{ShapeSound};
 
-// Of `count` rows, the lengths of their ends and weights.
-fn ends_fit(count: usize, ends: &[usize], weights: &[f64]) -> bool
-    requires { ⌜ count ≤ 327680 ⌝ }
-    ensures { λ r. ⌜ r ≡ endsFit count (now (ends .entry)) (now (weights .entry)) ⌝ }
+// The ends and weights of the rows.
+pub fn ends_fit(s: Shape, ends: &[usize], weights: &[f64]) -> bool
+    requires { ⌜ ShapeSound s ⌝ }
+    ensures { λ r. ⌜ r ≡ endsFit (rows s) (now (ends .entry)) (now (weights .entry)) ⌝ }
 {
+    let count = s.bearings + s.directions;
     both(ends.len() == 2 * count, weights.len() == count)
 }
 
-// Of `count` rows, the lengths of their rays and scales.
-fn rays_fit(count: usize, rays: &[f64], scales: &[f64]) -> bool
-    requires { ⌜ count ≤ 327680 ⌝ }
-    ensures { λ r. ⌜ r ≡ raysFit count (now (rays .entry)) (now (scales .entry)) ⌝ }
+// The rays and scales of the rows.
+fn rays_fit(s: Shape, rays: &[f64], scales: &[f64]) -> bool
+    requires { ⌜ ShapeSound s ⌝ }
+    ensures { λ r. ⌜ r ≡ raysFit (rows s) (now (rays .entry)) (now (scales .entry)) ⌝ }
 {
+    let count = s.bearings + s.directions;
     both(rays.len() == 3 * count, scales.len() == count)
 }
 
-// Of m points, the lengths of their positions and of the lists that name b bearings.
-fn points_fit(m: usize, b: usize, points: &[f64], offsets: &[usize], listed: &[usize]) -> bool
-    requires { ⌜ m ≤ 65536 ⌝ }
-    ensures { λ r. ⌜ r ≡ pointsFit m b (now (points .entry)) (now (offsets .entry)) (now (listed .entry)) ⌝ }
+// n vectors.
+pub fn vectors_fit(n: usize, l: &[f64]) -> bool
+    requires { ⌜ n ≤ 65536 ⌝ }
+    ensures { λ r. ⌜ r ≡ vectorsFit n (now (l .entry)) ⌝ }
 {
-    both(
-        points.len() == 3 * m,
-        both(offsets.len() == m + 1, listed.len() == b),
-    )
+    l.len() == 3 * n
 }
 
-// 3 of a graph call with `count` rows.
-pub(crate) fn check_graph_lengths(
-    count: usize,
+// The point lists.
+fn lists_fit(s: Shape, offsets: &[usize], listed: &[usize]) -> bool
+    requires { ⌜ ShapeSound s ⌝ }
+    ensures { λ r. ⌜ r ≡ listsFit (s .points) (s .bearings) (now (offsets .entry)) (now (listed .entry)) ⌝ }
+{
+    both(offsets.len() == s.points + 1, listed.len() == s.bearings)
+}
+
+// Every slice of a network but its point lists.
+pub fn content_fits(
+    s: Shape,
     ends: &[usize],
+    rays: &[f64],
     weights: &[f64],
-    fit: bool,
-) -> Verdict
-    requires { ⌜ count ≤ 327680 ⌝ }
-    ensures { λ r. ⌜ r ≡ test 3 (not (endsFit count (now (ends .entry)) (now (weights .entry)) && fit)) ⌝ }
+    scales: &[f64],
+    points: &[f64],
+) -> bool
+    requires { ⌜ ShapeSound s ⌝ }
+    ensures { λ r. ⌜ r ≡ contentFits s (now (ends .entry)) (now (rays .entry)) (now (weights .entry)) (now (scales .entry)) (now (points .entry)) ⌝ }
 {
-    refused_if(3, !both(ends_fit(count, ends, weights), fit))
+    let ends_ok = ends_fit(s, ends, weights);
+    let rays_ok = rays_fit(s, rays, scales);
+    both(ends_ok, both(rays_ok, vectors_fit(s.points, points)))
 }
 
-// 3 of a call that is lent the whole network of `count` rows, and k camera positions.
-pub(crate) fn check_lengths(
-    count: usize,
-    m: usize,
-    b: usize,
+// Every slice of a network.
+pub fn network_fits(
+    s: Shape,
     ends: &[usize],
     rays: &[f64],
     weights: &[f64],
@@ -61,21 +71,20 @@ pub(crate) fn check_lengths(
     points: &[f64],
     offsets: &[usize],
     listed: &[usize],
-    cameras: &[f64],
-    k: usize,
-    fit: bool,
-) -> Verdict
-    requires { ⌜ count ≤ 327680 ⌝ }
-    requires { ⌜ m ≤ 65536 ⌝ }
-    requires { ⌜ k ≤ 4096 ⌝ }
-    ensures { λ r. ⌜ r ≡ test 3 (not ((endsFit count (now (ends .entry)) (now (weights .entry)) && (raysFit count (now (rays .entry)) (now (scales .entry)) && pointsFit m b (now (points .entry)) (now (offsets .entry)) (now (listed .entry)))) && (eqb (length (now (cameras .entry))) (3 * k) && fit))) ⌝ }
+) -> bool
+    requires { ⌜ ShapeSound s ⌝ }
+    ensures { λ r. ⌜ r ≡ networkFits (network s (now (ends .entry)) (now (rays .entry)) (now (weights .entry)) (now (scales .entry))
+        (now (points .entry)) (now (offsets .entry)) (now (listed .entry))) ⌝ }
 {
-    let rows = both(
-        ends_fit(count, ends, weights),
-        both(
-            rays_fit(count, rays, scales),
-            points_fit(m, b, points, offsets, listed),
-        ),
-    );
-    refused_if(3, !both(rows, both(cameras.len() == 3 * k, fit)))
+    both(
+        content_fits(s, ends, rays, weights, scales, points),
+        lists_fit(s, offsets, listed),
+    )
+}
+
+// 3, where `fit` says that every slice which the call is lent has its length.
+pub fn check_lengths(fit: bool) -> Verdict
+    ensures { λ r. ⌜ r ≡ verdict (lengthTests fit) ⌝ }
+{
+    refused_if(3, !fit)
 }

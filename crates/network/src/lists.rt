@@ -1,13 +1,18 @@
 // 6: the point lists. A list is tested place by place; that its rows then name every bearing once is a theorem.
+use crate::Shape;
+use crate::Verdict;
 use crate::answers::both;
 use crate::answers::is_nowhere;
+use crate::answers::refused_if;
 use field::Place;
 ghost use mathlib.Core.Path.{_≡_};
 ghost use Prim.Native.Nat.{_+_, _*_, _<_, _≤_};
 ghost use lib.ListN.{length, getD};
 ghost use Rattle.field.specs.Count.{lowest};
 ghost use Rattle.network.specs.Lists.{falls, offsetsRise, misplaced, disordered, listsHold};
-ghost use Rattle.network.specs.Sound.{OffsetsSound};
+ghost use Rattle.network.specs.Network.{rows};
+ghost use Rattle.network.specs.Refusals.{verdict, listTests};
+ghost use Rattle.network.specs.inner.Sound.{OffsetsSound};
 
 // The lowest of m points whose list ends before it starts.
 fn find_fall(offsets: &[usize], m: usize) -> Place
@@ -112,13 +117,7 @@ fn find_disordered(m: usize, b: usize, ends: &[usize], offsets: &[usize], listed
     Place::Nowhere
 }
 
-pub(crate) fn lists_hold(
-    m: usize,
-    b: usize,
-    ends: &[usize],
-    offsets: &[usize],
-    listed: &[usize],
-) -> bool
+fn lists_hold(m: usize, b: usize, ends: &[usize], offsets: &[usize], listed: &[usize]) -> bool
     requires { ⌜ 2 * b ≤ length (now ends) ⌝ }
     requires { ⌜ length (now offsets) ≡ m + 1 ⌝ }
     requires { ⌜ length (now listed) ≡ b ⌝ }
@@ -128,4 +127,14 @@ pub(crate) fn lists_hold(
         return false;
     }
     is_nowhere(find_disordered(m, b, ends, offsets, listed))
+}
+
+// 6.
+pub(crate) fn check_lists(s: Shape, ends: &[usize], offsets: &[usize], listed: &[usize]) -> Verdict
+    requires { ⌜ length (now ends) ≡ 2 * rows s ⌝ }
+    requires { ⌜ length (now offsets) ≡ s .points + 1 ⌝ }
+    requires { ⌜ length (now listed) ≡ s .bearings ⌝ }
+    ensures { λ r. ⌜ r ≡ verdict (listTests s (now (ends .entry)) (now (offsets .entry)) (now (listed .entry))) ⌝ }
+{
+    refused_if(6, !lists_hold(s.points, s.bearings, ends, offsets, listed))
 }

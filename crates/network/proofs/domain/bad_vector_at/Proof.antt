@@ -1,7 +1,8 @@
 use mathlib.Core.Bool.{not}
 use mathlib.Core.Path.{ap, _∙_}
 use borrow.Author.Needs.{needs}
-use Rattle.network.specs.Refusals.{isFinite, badVector}
+use Rattle.field.specs.Vec.{isFinite}
+use Rattle.network.specs.Refusals.{badVector}
 use Rattle.network.proofs.domain.bad_vector_at.Statement.{statement}
 use Rattle.network.proofs.domain.bad_vector_at.Tie as tie
 

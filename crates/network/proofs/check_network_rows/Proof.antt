@@ -1,0 +1,22 @@
+use native.Mathlib.Omega.{arith}
+use Rattle.network.proofs.Verdicts.{halts-in, passes-in}
+use Rattle.network.specs.Refusals.{networkRowTests}
+use borrow.Author.Needs.{needs}
+use Rattle.network.proofs.check_network_rows.Statement.{statement}
+use Rattle.network.proofs.check_network_rows.Tie as tie
+
+pub check-network-rows-spec : {M : Type 1} → statement M
+unfolding networkRowTests
+check-network-rows-spec =
+    tie.close
+    (tie.spec
+    (λ c κs. omega arith)
+    (λ c. search needs)
+    (λ c. search halts-in)
+    (λ c. search needs)
+    (λ c κs. omega arith)
+    (λ c. search needs)
+    (λ c. search (passes-in, halts-in))
+    (λ c. search needs)
+    (λ c κs. search needs)
+    (λ c. search passes-in))
