@@ -2,8 +2,8 @@
 use mathlib.Core.Path.{_≡_, refl, sym, ap, _∙_}
 use mathlib.Core.Logic.{_⊎_, inl, inr, ⊎-elim}
 use mathlib.Core.List.{List}
-use mathlib.Core.Bool.{Bool, true, false, _&&_, true≢false}
-use Prim.Native.Nat.{ℕ, _+_, _<_}
+use mathlib.Core.Bool.{Bool, true, false, cond, _&&_, true≢false}
+use Prim.Native.Nat.{ℕ, _+_, _<_, _≤_}
 use native.Mathlib.Omega.{arith}
 use borrow.Author.Count.{below-more}
 use lib.Ieee.{Float, lt}
@@ -12,15 +12,13 @@ use Rattle.field.specs.declared.Place.the-variants.{At, Nowhere}
 use Rattle.field.specs.Count.{lowest}
 use Rattle.field.proofs.Counting.{lowest-none, lowest-is, none-of, found}
 use Rattle.network.specs.Lists.{none, absent}
+use Rattle.network.proofs.PointLists.{each-none}
+use Rattle.system.specs.declared.assembly.Best.{Best}
 use Rattle.system.specs.declared.CameraTerm.{CameraTerm}
 use Rattle.system.specs.System.{minusOne, degreeAt, greatest, orZero, anchorOf}
 use Rattle.double.proofs.Less.{lt-irreflexive, lt-numbers, lt-past, lt-trans}
 
 -- ---- none
-
-each-none : (p : ℕ → Bool) (n : ℕ) → ((k : ℕ) → k < n → p k ≡ false) → none p n ≡ true
-unfolding none
-each-none p n h = ap absent (lowest-none p n h)
 
 some-none : (p : ℕ → Bool) (n k : ℕ) → k < n → p k ≡ true → none p n ≡ false
 unfolding none
@@ -38,23 +36,23 @@ and-false false b h = refl
 
 -- Of the first i cameras none has a degree above `best`, and those before a that count have one below it;
 -- `best` is a's degree, or still -1.
-pub record Best (ts : List CameraTerm) (i : ℕ) (best : Float) (a : ℕ) : Type 0 where
+pub record Leads (ts : List CameraTerm) (i : ℕ) (best : Float) (a : ℕ) : Type 0 where
   pub most : (k : ℕ) → k < i → lt best (degreeAt ts k) ≡ false
   pub first : (k : ℕ) → k < a → lt minusOne (degreeAt ts k) ≡ true → lt (degreeAt ts k) best ≡ true
   pub from : ((best ≡ minusOne) × (a ≡ 0)) ⊎ ((best ≡ degreeAt ts a) × (a < i) × (lt minusOne best ≡ true))
 
 module _ (ts : List CameraTerm) where
-  pub best-none : Best ts 0 minusOne 0
-  best-none = record { most = λ k l. absurd (omega arith); first = λ k l. absurd (omega arith); from = inl (refl, refl) }
+  best-start : Leads ts 0 minusOne 0
+  best-start = record { most = λ k l. absurd (omega arith); first = λ k l. absurd (omega arith); from = inl (refl, refl) }
 
-  pub best-left : (i : ℕ) (best : Float) (a : ℕ) → Best ts i best a → lt best (degreeAt ts i) ≡ false → Best ts (i + 1) best a
+  best-left : (i : ℕ) (best : Float) (a : ℕ) → Leads ts i best a → lt best (degreeAt ts i) ≡ false → Leads ts (i + 1) best a
   best-left i best a b h = record {
     most = below-more _ i (b .most) h;
     first = b .first;
     from = ⊎-elim (λ w. inl w) (λ w. inr (w .0, omega (arith, w .1), w .2)) (b .from);
   }
 
-  pub best-taken : (i : ℕ) (best : Float) (a : ℕ) → Best ts i best a → lt best (degreeAt ts i) ≡ true → Best ts (i + 1) (degreeAt ts i) i
+  best-taken : (i : ℕ) (best : Float) (a : ℕ) → Leads ts i best a → lt best (degreeAt ts i) ≡ true → Leads ts (i + 1) (degreeAt ts i) i
   best-taken i best a b h = record {
     most = below-more _ i (λ k l. less k l (lt (degreeAt ts i) (degreeAt ts k)) refl) (lt-irreflexive (degreeAt ts i));
     first = λ k l t. lt-past best (degreeAt ts k) (degreeAt ts i) h (lt-numbers minusOne (degreeAt ts k) t .1) (b .most k l);
@@ -64,6 +62,20 @@ module _ (ts : List CameraTerm) where
       less : (k : ℕ) → k < i → (q : Bool) → lt (degreeAt ts i) (degreeAt ts k) ≡ q → q ≡ false
       less k l true e = absurd (true≢false (sym (lt-trans best (degreeAt ts i) (degreeAt ts k) h e) ∙ b .most k l))
       less k l false e = refl
+
+  -- in the code's loop: the best of the first i cameras
+  abbrev pub Best-of : ℕ → Best → Type 0
+  Best-of i b = Leads ts i (b .degree) (b .camera)
+
+  pub best-none : Best-of 0 (record { camera = 0; degree = minusOne })
+  best-none = best-start
+
+  pub best-more : (i : ℕ) (b b' : Best) (d : Float) → d ≡ degreeAt ts i → Best-of i b → b' ≡ cond (lt (b .degree) d) (record { camera = i; degree = d }) b → Best-of (i + 1) b'
+  best-more i b b' d e h k = go (lt (b .degree) d) refl k
+    where
+      go : (q : Bool) → lt (b .degree) d ≡ q → b' ≡ cond q (record { camera = i; degree = d }) b → Best-of (i + 1) b'
+      go true t f = rw (f, e) (best-taken i (b .degree) (b .camera) h (rw e at t))
+      go false t f = rw f (best-left i (b .degree) (b .camera) h (rw e at t))
 
   -- whose degree exceeds that of camera c
   over : ℕ → ℕ → Bool
@@ -77,7 +89,7 @@ module _ (ts : List CameraTerm) where
   unfolding greatest over
   is-greatest n c t h = rw t h
 
-  pub best-anchor : (n : ℕ) (best : Float) (a : ℕ) → Best ts n best a → a ≡ anchorOf ts n
+  best-anchor : (n : ℕ) (best : Float) (a : ℕ) → Leads ts n best a → a ≡ anchorOf ts n
   unfolding anchorOf over
   best-anchor n best a b = ⊎-elim idle chosen (b .from)
     where
@@ -92,6 +104,10 @@ module _ (ts : List CameraTerm) where
           let e : lowest (greatest ts n) n ≡ At a =
           lowest-is _ a n t (w .1) (λ k l. none-greatest n k (λ u. some-none _ n a (w .1) (rw (w .0) at (b .first k l u)))) in
           rw e
+
+-- the best of all
+pub best-ended : (ts : List CameraTerm) (i n : ℕ) (b : Best) → Best-of ts i b → (i ≤ n) → (n ≤ i) → b .camera ≡ anchorOf ts n
+best-ended ts i n b h j k = let e : i ≡ n = omega arith in best-anchor ts n (b .degree) (b .camera) (rw e at h)
 
 -- the anchor is a camera
 pub anchor-below : (ts : List CameraTerm) (n : ℕ) → 0 < n → anchorOf ts n < n

@@ -1,7 +1,7 @@
+pub mod Segments
 pub mod Anchor
 pub mod Terms
-pub mod Kept
 pub mod Sums
 pub mod Rows
-pub mod Whole
+pub mod Forming
 pub mod Edges

@@ -16,7 +16,7 @@ use Rattle.field.proofs.Counting.{field-zero, field-suc}
 use Rattle.field.proofs.Buffers.{Lawful, at-load, getD-part, get-part, get-vector, write-sets, filled-write, flat-append}
 use Rattle.system.specs.declared.CameraTerm.{CameraTerm}
 use Rattle.system.specs.System.{tiny, one, noTerm, degreeAt, sees, departs, arrives}
-use Rattle.system.specs.Work.{term}
+use Rattle.system.specs.Work.{term, termPlace}
 
 -- ---- what a row adds
 
@@ -71,17 +71,15 @@ put-term l p t =
     (write-sets l p (t .diagonal ∷ t .right .x ∷ t .right .y ∷ t .right .z ∷ t .degree ∷ [])
     ∙ ap (λ (k : List Float). set k (suc (suc (suc (suc p)))) (t .degree)) (sym (write-sets (set l p (t .diagonal)) (suc p) (t .right .x ∷ t .right .y ∷ t .right .z ∷ []))))
 
-pub get-term-by : (l : List Float) (p : ℕ) (v : Vec3) → v ≡ get vector l (p + 1) → termOf (getD l p nan) v (getD l (p + 4) nan) ≡ get term l p
-get-term-by l p v e = rw e (sym (get-term l p))
+pub get-term-by : (l : List Float) (p q : ℕ) (v : Vec3) → p ≡ q → v ≡ get vector l (p + 1) → termOf (getD l p nan) v (getD l (p + 4) nan) ≡ get term l q
+get-term-by l p q v h e = rw (e, ← h) (sym (get-term l p))
 
-pub put-term-by : (l m : List Float) (p : ℕ) (t : CameraTerm) → m ≡ put vector (set l p (t .diagonal)) (p + 1) (t .right) → set m (p + 4) (t .degree) ≡ put term l p t
-put-term-by l m p t e = rw e (sym (put-term l p t))
+pub put-term-by : (l m : List Float) (p q : ℕ) (t : CameraTerm) → p ≡ q → m ≡ put vector (set l p (t .diagonal)) (p + 1) (t .right) → set m (p + 4) (t .degree) ≡ put term l q t
+put-term-by l m p q t h e = rw (e, ← h) (sym (put-term l p t))
 
--- the degree in a field of terms
-pub degree-at : (l : List Float) (n c : ℕ) → c < n → degreeAt (load term l 0 n) c ≡ getD l (5 * c + 4) nan
-degree-at l n c h =
-    let e : get term l (0 + 5 * c) ≡ termOf (getD l (5 * c) nan) (get vector l (5 * c + 1)) (getD l (5 * c + 4) nan) = rw zero-add (get-term l (5 * c)) in
-    ap (λ (t : CameraTerm). t .degree) (at-load term l 0 n c noTerm h ∙ e)
+-- a degree in a field of terms
+pub degree-at : (l : List Float) (n c : ℕ) (t : CameraTerm) → t ≡ get term l (termPlace c) → c < n → t .degree ≡ degreeAt (load term l 0 n) c
+degree-at l n c t e h = ap (λ (t : CameraTerm). t .degree) (e ∙ rw zero-add at (sym (at-load term l 0 n c noTerm h)))
 
 -- a field of values whose numbers are all the same
 pub flat-same : {A : Type 0} (K : Cell A) (a : A) (v : Float) → K .numbers a ≡ replicate (K .width) v → (n : ℕ) → flat K (field n (λ i. a)) ≡ replicate (K .width * n) v

@@ -1,4 +1,4 @@
 pub mod System
 pub mod Work
-pub mod Formed
 pub mod Edges
+pub mod inner

@@ -12,7 +12,9 @@ use Rattle.field.specs.Vec.{null, origin, plus, minus, scale, over}
 use Rattle.field.specs.Count.{upto, field, lowest}
 use Rattle.field.specs.Buffer.{get, vector}
 use Rattle.double.specs.Sums.{total}
-use Rattle.network.specs.Network.{Network, rows, first, second, isBearing, offset, listedAt, listSize}
+use Rattle.network.specs.declared.Shape.{Shape}
+use Rattle.network.specs.declared.Span.{Span}
+use Rattle.network.specs.Network.{Network, rows, firstEnd, secondEnd, isBearing, spanOf, rowAt}
 use Rattle.network.specs.Lists.{none}
 use Rattle.system.specs.declared.CameraTerm.{CameraTerm}
 
@@ -32,41 +34,70 @@ minusOne = ofBits binary64 0xbff0000000000000
 abbrev pub effectiveOf : Float → Float → Float
 effectiveOf w s = mul binary64 (mul binary64 w s) s
 
--- the effective weight of row r, and its pull, ray × (weight × scale): of the lists that hold the rows' numbers
-abbrev pub effectiveIn : List Float → List Float → ℕ → Float
+-- the effective weight of row r, and its pull, ray × (weight × scale)
+unfoldable pub effectiveIn : List Float → List Float → ℕ → Float
 effectiveIn weights scales r = effectiveOf (getD weights r nan) (getD scales r nan)
 
-abbrev pub pullIn : List Float → List Float → List Float → ℕ → Vec3
+unfoldable pub pullIn : List Float → List Float → List Float → ℕ → Vec3
 pullIn rays weights scales r = scale (get vector rays (3 * r)) (mul binary64 (getD weights r nan) (getD scales r nan))
 
-unfoldable pub effective : Network → ℕ → Float
-effective net r = effectiveIn (net .graph .weights) (net .scales) r
+abbrev pub effective : Network → ℕ → Float
+effective net r = effectiveIn (net .weights) (net .scales) r
 
-unfoldable pub pull : Network → ℕ → Vec3
-pull net r = pullIn (net .rays) (net .graph .weights) (net .scales) r
+abbrev pub pull : Network → ℕ → Vec3
+pull net r = pullIn (net .rays) (net .weights) (net .scales) r
 
 -- ---- points
 
--- the i-th row that point p lists
-abbrev pub rowOf : Network → ℕ → ℕ → ℕ
-rowOf net p i = listedAt net (offset net p + i)
+-- the sum of the effective weights e over the rows that stand at the places k of the lists
+unfoldable pub weightSum : (ℕ → Float) → List ℕ → Span → Float
+weightSum e listed k = total binary64 (λ i. e (rowAt listed k i)) null (k .size)
 
--- point weight W: the sum of the effective weights over the point's list
-unfoldable pub pointWeight : Network → ℕ → Float
-pointWeight net p = total binary64 (λ i. effective net (rowOf net p i)) null (listSize net p)
+-- the sum of the pulls
+abbrev pub pullStep : (ℕ → Vec3) → List ℕ → Span → ℕ → Vec3 → Vec3
+pullStep o listed k i v = plus v (o (rowAt listed k i))
 
-abbrev pub pullStep : Network → ℕ → ℕ → Vec3 → Vec3
-pullStep net p i v = plus v (pull net (rowOf net p i))
+unfoldable pub pullSum : (ℕ → Vec3) → List ℕ → Span → Vec3
+pullSum o listed k = upto (pullStep o listed k) (k .size) origin
 
-unfoldable pub pullSum : Network → ℕ → Vec3
-pullSum net p = upto (pullStep net p) (listSize net p) origin
-
--- Mean offset: the sum of the pulls over W where W is above 1e-12, else zero.
+-- the pulls' sum over the weights' sum where that is above 1e-12, else zero
 unfoldable pub meanOf : Float → Vec3 → Vec3
 meanOf w v = cond (lt tiny w) (over v w) origin
 
-unfoldable pub meanOffset : Network → ℕ → Vec3
-meanOffset net p = meanOf (pointWeight net p) (pullSum net p)
+-- each row's effective weight e, and each point's weight W
+pub record Weights : Type 0 where
+  pub row : ℕ → Float
+  pub point : ℕ → Float
+
+-- and each row's pull and each point's mean offset
+pub record Sums : Type 0 where
+  pub weights : Weights
+  pub pull : ℕ → Vec3
+  pub mean : ℕ → Vec3
+
+-- Point weight: the sum over the point's list. Mean offset: the sum of the pulls over it, divided by the point weight.
+abbrev pub pointWeightIn : List Float → List Float → List ℕ → List ℕ → ℕ → Float
+pointWeightIn weights scales offsets listed p = weightSum (effectiveIn weights scales) listed (spanOf offsets p)
+
+unfoldable pub sumsFrom : List Float → List Float → List Float → List ℕ → List ℕ → Sums
+sumsFrom rays weights scales offsets listed = record {
+  weights = record { row = effectiveIn weights scales; point = pointWeightIn weights scales offsets listed };
+  pull = pullIn rays weights scales;
+  mean = λ p. meanOf (pointWeightIn weights scales offsets listed p) (pullSum (pullIn rays weights scales) listed (spanOf offsets p));
+}
+
+-- the network's own
+abbrev pub sumsOf : Network → Sums
+sumsOf net = sumsFrom (net .rays) (net .weights) (net .scales) (net .offsets) (net .listed)
+
+abbrev pub weightsOf : Network → Weights
+weightsOf net = sumsOf net .weights
+
+abbrev pub pointWeight : Network → ℕ → Float
+pointWeight net p = weightsOf net .point p
+
+abbrev pub meanOffset : Network → ℕ → Vec3
+meanOffset net p = sumsOf net .mean p
 
 -- ---- cameras
 
@@ -92,27 +123,38 @@ arrives e o t = record { diagonal = add binary64 (t .diagonal) e; right = plus (
 abbrev pub termAt : List CameraTerm → ℕ → CameraTerm
 termAt ts c = getD ts c noTerm
 
--- what bearing r adds to its camera's term
-unfoldable pub addBearing : Network → ℕ → List CameraTerm → List CameraTerm
-addBearing net r ts =
-    let c = first (net .graph) r in
-    let p = second (net .graph) r in
-    set ts c (sees (effective net r) (pointWeight net p) (meanOffset net p) (pull net r) (termAt ts c))
+-- what sums add to the terms
+abbrev pub Addition : Type 0
+Addition = Sums → List CameraTerm → List CameraTerm
 
--- what direction r adds to its source's term, and then to its target's
-unfoldable pub addDirection : Network → ℕ → List CameraTerm → List CameraTerm
-addDirection net r ts =
-    let a = first (net .graph) r in
-    let b = second (net .graph) r in
-    let us = set ts a (departs (effective net r) (pull net r) (termAt ts a)) in
-    set us b (arrives (effective net r) (pull net r) (termAt us b))
+-- bearing r, to its camera's term
+unfoldable pub addBearing : List ℕ → ℕ → Addition
+addBearing ends r S ts =
+    let c = firstEnd ends r in
+    let p = secondEnd ends r in
+    set ts c (sees (S .weights .row r) (S .weights .point p) (S .mean p) (S .pull r) (termAt ts c))
 
-unfoldable pub assembleRow : Network → ℕ → List CameraTerm → List CameraTerm
-assembleRow net r ts = cond (isBearing (net .graph) r) (addBearing net r ts) (addDirection net r ts)
+-- direction r, to its source's term, and then to its target's
+unfoldable pub addDirection : List ℕ → ℕ → Addition
+addDirection ends r S ts =
+    let a = firstEnd ends r in
+    let b = secondEnd ends r in
+    let us = set ts a (departs (S .weights .row r) (S .pull r) (termAt ts a)) in
+    set us b (arrives (S .weights .row r) (S .pull r) (termAt us b))
 
--- the terms of all cameras, rows added in row order
-unfoldable pub terms : Network → List CameraTerm
-terms net = upto (assembleRow net) (rows (net .graph .shape)) (field (net .graph .shape .cameras) (λ c. noTerm))
+unfoldable pub assembleRow : Shape → List ℕ → ℕ → Addition
+assembleRow s ends r S ts = cond (isBearing s r) (addBearing ends r S ts) (addDirection ends r S ts)
+
+-- the first k rows, in row order
+unfoldable pub assembleRows : Shape → List ℕ → ℕ → Addition
+assembleRows s ends k S ts = upto (λ r. assembleRow s ends r S) k ts
+
+-- the terms of all cameras
+abbrev pub termsBy : Shape → List ℕ → Sums → List CameraTerm
+termsBy s ends S = assembleRows s ends (rows s) S (field (s .cameras) (λ c. noTerm))
+
+abbrev pub terms : Network → List CameraTerm
+terms net = termsBy (net .shape) (net .ends) (sumsOf net)
 
 -- ---- the anchor
 
@@ -132,4 +174,4 @@ unfoldable pub anchorOf : List CameraTerm → ℕ → ℕ
 anchorOf ts n = orZero (lowest (greatest ts n) n)
 
 abbrev pub anchor : Network → ℕ
-anchor net = anchorOf (terms net) (net .graph .shape .cameras)
+anchor net = anchorOf (terms net) (net .shape .cameras)

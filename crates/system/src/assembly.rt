@@ -1,135 +1,171 @@
-// The cameras' terms, row by row, and the anchor.
+// The cameras' terms, row by row (`assemble_camera_system`), and the anchor (`pick_anchor`).
 use crate::get_term;
 use crate::pull;
 use crate::put_term;
+use crate::reads::mean_offset;
+use crate::reads::point_weight;
+use crate::reads::row_weight;
+use crate::work::term_at;
 use field::Vec3;
 use field::clear;
-use field::get3;
+use network::Shape;
+use network::links::camera_of;
+use network::links::point_of;
+use network::links::target_of;
 ghost use mathlib.Core.Path.{_≡_};
-ghost use Prim.Native.Nat.{_+_, _*_, _<_, _≤_};
-ghost use lib.Ieee.{nan};
-ghost use lib.ListN.{length, getD};
-ghost use Rattle.field.specs.Buffer.{get, put, load, store, vector};
-ghost use Rattle.network.specs.Network.{lent};
-ghost use Rattle.system.specs.System.{sees, departs, arrives, assembleRow, terms, anchorOf};
-ghost use Rattle.system.specs.Work.{term};
-ghost use Rattle.system.specs.Formed.{Summed};
+ghost use mathlib.Core.Bool.{cond};
+ghost use Prim.Native.Nat.{_+_, _<_, _≤_};
+ghost use lib.ListN.{length};
+ghost use lib.Ieee.{lt};
+ghost use Rattle.field.specs.Buffer.{get, put, load, store};
+ghost use Rattle.network.specs.Network.{rows};
+ghost use Rattle.network.specs.inner.Sound.{EndsSound};
+ghost use Rattle.system.specs.System.{pullIn, sees, departs, arrives, addBearing, addDirection, assembleRow, assembleRows, termsBy, anchorOf};
+ghost use Rattle.system.specs.Work.{term, termPlace, matrixAt};
+ghost use Rattle.system.specs.inner.Formed.{RowsThere, always, sumsIn, added};
 
-// A bearing: what stands of its point at w and v, added to the camera's term at p.
-fn see(work: &mut [f64], p: usize, w: usize, v: usize, e: f64, offset: Vec3)
-    requires { ⌜ (p + 5 ≤ length (now work)) × (w < length (now work)) × (v + 3 ≤ length (now work)) ⌝ }
-    ensures { λ r. ⌜ now (work .exit) ≡ put term (now (work .entry)) p (sees e (getD (now (work .entry)) w nan) (get vector (now (work .entry)) v) offset (get term (now (work .entry)) p)) ⌝ }
+// A bearing added to the term of camera c.
+fn see(work: &mut [f64], c: usize, e: f64, w: f64, mean: Vec3, offset: Vec3)
+    requires { ⌜ (c ≤ 4096) × (termPlace (c + 1) ≤ length (now work)) ⌝ }
+    ensures { λ x. ⌜ now (work .exit) ≡ put term (now (work .entry)) (termPlace c) (sees e w mean offset (get term (now (work .entry)) (termPlace c))) ⌝ }
 {
-    let weight = work[w];
-    let mean = get3(work, v);
-    let t = get_term(work, p).sees(e, weight, mean, offset);
-    put_term(work, p, t);
+    let t = get_term(work, c).sees(e, w, mean, offset);
+    put_term(work, c, t);
 }
 
-// A direction, at its source and at its target, whose terms stand at p and q.
-fn link(work: &mut [f64], p: usize, q: usize, e: f64, offset: Vec3)
-    requires { ⌜ (p + 5 ≤ length (now work)) × (q + 5 ≤ length (now work)) ⌝ }
-    ensures { λ r. ⌜ now (work .exit) ≡ put term (put term (now (work .entry)) p (departs e offset (get term (now (work .entry)) p))) q (arrives e offset (get term (put term (now (work .entry)) p (departs e offset (get term (now (work .entry)) p))) q)) ⌝ }
+// A direction added to the term of its source c.
+fn depart(work: &mut [f64], c: usize, e: f64, offset: Vec3)
+    requires { ⌜ (c ≤ 4096) × (termPlace (c + 1) ≤ length (now work)) ⌝ }
+    ensures { λ x. ⌜ now (work .exit) ≡ put term (now (work .entry)) (termPlace c) (departs e offset (get term (now (work .entry)) (termPlace c))) ⌝ }
 {
-    let source = get_term(work, p).departs(e, offset);
-    put_term(work, p, source);
-    let target = get_term(work, q).arrives(e, offset);
-    put_term(work, q, target);
+    let t = get_term(work, c).departs(e, offset);
+    put_term(work, c, t);
 }
 
-// What row r adds.
-fn assemble_row(
-    n: usize,
-    m: usize,
-    b: usize,
-    e: usize,
-    ends: &[usize],
-    rays: &[f64],
-    weights: &[f64],
-    scales: &[f64],
-    points: &[f64],
-    offsets: &[usize],
-    rows: &[usize],
-    work: &mut [f64],
-    r: usize,
-)
-    requires { ⌜ Summed (lent n m b e (now ends) (now rays) (now weights) (now scales) (now points) (now offsets) (now rows)) (now work) ⌝ }
-    requires { ⌜ r < b + e ⌝ }
-    ensures { λ x. ⌜ now (work .exit) ≡ store term (now (work .entry)) 0 (assembleRow (lent n m b e (now (ends .entry)) (now (rays .entry)) (now (weights .entry)) (now (scales .entry)) (now (points .entry)) (now (offsets .entry)) (now (rows .entry))) r (load term (now (work .entry)) 0 n)) ⌝ }
+// And to that of its target.
+fn arrive(work: &mut [f64], c: usize, e: f64, offset: Vec3)
+    requires { ⌜ (c ≤ 4096) × (termPlace (c + 1) ≤ length (now work)) ⌝ }
+    ensures { λ x. ⌜ now (work .exit) ≡ put term (now (work .entry)) (termPlace c) (arrives e offset (get term (now (work .entry)) (termPlace c))) ⌝ }
 {
-    let first = ends[2 * r];
-    let second = ends[2 * r + 1];
-    let share = work[23 * n + 4 * m + r];
-    let offset = pull(rays, weights, scales, r);
-    if r < b {
-        see(
-            work,
-            5 * first,
-            23 * n + second,
-            23 * n + m + 3 * second,
-            share,
-            offset,
-        );
+    let t = get_term(work, c).arrives(e, offset);
+    put_term(work, c, t);
+}
+
+// Bearing r, whose pull is `offset`, added to its camera's term. Its effective weight and the sums of its point stand in the buffer.
+fn add_bearing(s: Shape, ends: &[usize], work: &mut [f64], r: usize, offset: Vec3)
+    requires { ⌜ EndsSound s (now ends) ⌝ }
+    requires { ⌜ (r < s .bearings) × (matrixAt s ≤ length (now work)) ⌝ }
+    ensures { λ x. ⌜ now (work .exit) ≡ added s (always offset) (addBearing (now (ends .entry)) r) (now (work .entry)) ⌝ }
+{
+    let c = camera_of(s, ends, r);
+    let p = point_of(s, ends, r);
+    let e = row_weight(s, work, r);
+    let w = point_weight(s, work, p);
+    let mean = mean_offset(s, work, p);
+    see(work, c, e, w, mean, offset);
+}
+
+// Direction r, whose pull is `offset`, added to its source's term, and then to its target's.
+fn add_direction(s: Shape, ends: &[usize], work: &mut [f64], r: usize, offset: Vec3)
+    requires { ⌜ EndsSound s (now ends) ⌝ }
+    requires { ⌜ (s .bearings ≤ r) × (r < rows s) × (matrixAt s ≤ length (now work)) ⌝ }
+    ensures { λ x. ⌜ now (work .exit) ≡ added s (always offset) (addDirection (now (ends .entry)) r) (now (work .entry)) ⌝ }
+{
+    let e = row_weight(s, work, r);
+    let source = camera_of(s, ends, r);
+    let target = target_of(s, ends, r);
+    depart(work, source, e, offset);
+    arrive(work, target, e, offset);
+}
+
+// Row r, whose pull is `offset`.
+fn add_row(s: Shape, ends: &[usize], work: &mut [f64], r: usize, offset: Vec3)
+    requires { ⌜ EndsSound s (now ends) ⌝ }
+    requires { ⌜ (r < rows s) × (matrixAt s ≤ length (now work)) ⌝ }
+    ensures { λ x. ⌜ now (work .exit) ≡ added s (always offset) (assembleRow s (now (ends .entry)) r) (now (work .entry)) ⌝ }
+{
+    if r < s.bearings {
+        add_bearing(s, ends, work, r, offset);
     } else {
-        link(work, 5 * first, 5 * second, share, offset);
+        add_direction(s, ends, work, r, offset);
     }
 }
 
-// The terms of all cameras: rows are added in row order.
-pub(crate) fn assemble(
-    n: usize,
-    m: usize,
-    b: usize,
-    e: usize,
+// What all rows add, in row order.
+fn assemble_rows(
+    s: Shape,
     ends: &[usize],
     rays: &[f64],
     weights: &[f64],
     scales: &[f64],
-    points: &[f64],
-    offsets: &[usize],
-    rows: &[usize],
     work: &mut [f64],
 )
-    requires { ⌜ Summed (lent n m b e (now ends) (now rays) (now weights) (now scales) (now points) (now offsets) (now rows)) (now work) ⌝ }
-    ensures { λ x. ⌜ now (work .exit) ≡ store term (now (work .entry)) 0 (terms (lent n m b e (now (ends .entry)) (now (rays .entry)) (now (weights .entry)) (now (scales .entry)) (now (points .entry)) (now (offsets .entry)) (now (rows .entry)))) ⌝ }
+    requires { ⌜ EndsSound s (now ends) ⌝ }
+    requires { ⌜ RowsThere s (now rays) (now weights) (now scales) ⌝ }
+    requires { ⌜ matrixAt s ≤ length (now work) ⌝ }
+    ensures { λ x. ⌜ now (work .exit) ≡ added s (pullIn (now (rays .entry)) (now (weights .entry)) (now (scales .entry))) (assembleRows s (now (ends .entry)) (rows s)) (now (work .entry)) ⌝ }
 {
-    clear(work, 5 * n);
+    let count = s.bearings + s.directions;
     let mut r = 0usize;
-    while r < b + e {
-        assemble_row(
-            n,
-            m,
-            b,
-            e,
-            ends,
-            rays,
-            weights,
-            scales,
-            points,
-            offsets,
-            rows,
-            work,
-            r,
-        );
+    while r < count {
+        let offset = pull(rays, weights, scales, r);
+        add_row(s, ends, work, r, offset);
         r += 1;
+    }
+}
+
+// The terms of all cameras.
+pub(crate) fn assemble(
+    s: Shape,
+    ends: &[usize],
+    rays: &[f64],
+    weights: &[f64],
+    scales: &[f64],
+    work: &mut [f64],
+)
+    requires { ⌜ EndsSound s (now ends) ⌝ }
+    requires { ⌜ RowsThere s (now rays) (now weights) (now scales) ⌝ }
+    requires { ⌜ matrixAt s ≤ length (now work) ⌝ }
+    ensures { λ x. ⌜ now (work .exit) ≡ store term (now (work .entry)) 0 (termsBy s (now (ends .entry)) (sumsIn s (pullIn (now (rays .entry)) (now (weights .entry)) (now (scales .entry))) (now (work .entry)))) ⌝ }
+{
+    clear(work, term_at(s.cameras));
+    assemble_rows(s, ends, rays, weights, scales, work);
+}
+
+// The best camera so far, and its degree.
+struct Best {
+    camera: usize,
+    degree: f64,
+}
+
+impl Best {
+    // Camera c, where its degree is greater.
+    fn or(self, c: usize, degree: f64) -> Best
+        ensures { λ r. ⌜ r ≡ cond (lt (self .degree) degree) (record { camera = c; degree = degree }) self ⌝ }
+    {
+        if degree > self.degree {
+            return Best {
+                camera: c,
+                degree: degree,
+            };
+        }
+        self
     }
 }
 
 // The camera of the greatest degree, the first on a tie, 0 if none exceeds -1.
 pub(crate) fn pick_anchor(work: &[f64], n: usize) -> usize
-    requires { ⌜ 5 * n ≤ length (now work) ⌝ }
+    requires { ⌜ (n ≤ 4096) × (termPlace n ≤ length (now work)) ⌝ }
     ensures { λ r. ⌜ r ≡ anchorOf (load term (now (work .entry)) 0 n) n ⌝ }
 {
-    let mut anchor = 0usize;
-    let mut best = -1.0;
+    let mut best = Best {
+        camera: 0,
+        degree: -1.0,
+    };
     let mut c = 0usize;
     while c < n {
-        let degree = work[5 * c + 4];
-        if degree > best {
-            best = degree;
-            anchor = c;
-        }
+        best = best.or(c, get_term(work, c).degree);
         c += 1;
     }
-    anchor
+    best.camera
 }

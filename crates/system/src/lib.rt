@@ -1,6 +1,7 @@
 // The system of the linear step: effective weights, point sums, assembly, anchor.
 mod assembly;
-mod points;
+pub mod points;
+pub mod reads;
 pub mod work;
 
 use assembly::assemble;
@@ -8,16 +9,19 @@ use assembly::pick_anchor;
 use field::Vec3;
 use field::get3;
 use field::put3;
+use network::Shape;
 use points::fill_effective;
 use points::sum_points;
+use work::term_at;
 ghost use mathlib.Core.Path.{_≡_};
 ghost use Prim.Native.Nat.{_+_, _*_, _<_, _≤_};
 ghost use lib.ListN.{length};
 ghost use Rattle.field.specs.Buffer.{get, put};
-ghost use Rattle.network.specs.Network.{lent};
-ghost use Rattle.system.specs.System.{effectiveOf, pullIn, sees as seen, departs as departed, arrives as arrived};
-ghost use Rattle.system.specs.Work.{term};
-ghost use Rattle.system.specs.Formed.{Ready, Formed};
+ghost use Rattle.network.specs.Network.{links};
+ghost use Rattle.network.specs.inner.Sound.{LinksSound};
+ghost use Rattle.system.specs.System.{effectiveIn, pullIn, sumsFrom, sees as seen, departs as departed, arrives as arrived};
+ghost use Rattle.system.specs.Work.{term, termPlace, matrixAt};
+ghost use Rattle.system.specs.inner.Formed.{RowsThere, Formed};
 
 // What the system keeps of a camera: diagonal, right side, weighted degree.
 pub struct CameraTerm {
@@ -73,11 +77,13 @@ impl CameraTerm {
     }
 }
 
-// (weight × scale) × scale.
-pub fn effective(weight: f64, scale: f64) -> f64
-    ensures { λ r. ⌜ r ≡ effectiveOf weight scale ⌝ }
+// The effective weight of row r: (weight × scale) × scale.
+pub fn effective(weights: &[f64], scales: &[f64], r: usize) -> f64
+    requires { ⌜ (r < length (now weights)) × (r < length (now scales)) ⌝ }
+    ensures { λ e. ⌜ e ≡ effectiveIn (now (weights .entry)) (now (scales .entry)) r ⌝ }
 {
-    (weight * scale) * scale
+    let scale = scales[r];
+    (weights[r] * scale) * scale
 }
 
 // The pull of row r: ray × (weight × scale).
@@ -88,75 +94,51 @@ pub fn pull(rays: &[f64], weights: &[f64], scales: &[f64], r: usize) -> Vec3
     get3(rays, 3 * r).mul(weights[r] * scales[r])
 }
 
-// The term that stands at p.
-pub fn get_term(s: &[f64], p: usize) -> CameraTerm
-    requires { ⌜ p + 5 ≤ length (now s) ⌝ }
-    ensures { λ r. ⌜ r ≡ get term (now (s .entry)) p ⌝ }
+// The term of camera c.
+pub fn get_term(work: &[f64], c: usize) -> CameraTerm
+    requires { ⌜ (c ≤ 4096) × (termPlace (c + 1) ≤ length (now work)) ⌝ }
+    ensures { λ r. ⌜ r ≡ get term (now (work .entry)) (termPlace c) ⌝ }
 {
-    let right = get3(s, p + 1);
+    let p = term_at(c);
+    let right = get3(work, p + 1);
     CameraTerm {
-        diagonal: s[p],
+        diagonal: work[p],
         right: right,
-        degree: s[p + 4],
+        degree: work[p + 4],
     }
 }
 
-pub(crate) fn put_term(s: &mut [f64], p: usize, t: CameraTerm)
-    requires { ⌜ p + 5 ≤ length (now s) ⌝ }
-    ensures { λ r. ⌜ now (s .exit) ≡ put term (now (s .entry)) p t ⌝ }
+pub(crate) fn put_term(work: &mut [f64], c: usize, t: CameraTerm)
+    requires { ⌜ (c ≤ 4096) × (termPlace (c + 1) ≤ length (now work)) ⌝ }
+    ensures { λ r. ⌜ now (work .exit) ≡ put term (now (work .entry)) (termPlace c) t ⌝ }
 {
+    let p = term_at(c);
     let right = t.right;
-    s[p] = t.diagonal;
-    put3(s, p + 1, right);
-    s[p + 4] = t.degree;
+    work[p] = t.diagonal;
+    put3(work, p + 1, right);
+    work[p + 4] = t.degree;
 }
 
-// Forms the system in the work buffer, and returns the anchor.
+// Forms the system in the work buffer, and returns the anchor: `update_point_statistics`, `assemble_camera_system`, `pick_anchor`.
 pub fn form(
-    n: usize,
-    m: usize,
-    b: usize,
-    e: usize,
+    s: Shape,
     ends: &[usize],
     rays: &[f64],
     weights: &[f64],
     scales: &[f64],
-    points: &[f64],
     offsets: &[usize],
-    rows: &[usize],
+    listed: &[usize],
     work: &mut [f64],
 ) -> usize
-    requires { ⌜ Ready (lent n m b e (now ends) (now rays) (now weights) (now scales) (now points) (now offsets) (now rows)) (now work) ⌝ }
-    ensures { λ r. ⌜ Formed (lent n m b e (now (ends .entry)) (now (rays .entry)) (now (weights .entry)) (now (scales .entry)) (now (points .entry)) (now (offsets .entry)) (now (rows .entry))) (now (work .entry)) (now (work .exit)) r ⌝ }
+    requires { ⌜ LinksSound (links s (now ends) (now offsets) (now listed)) ⌝ }
+    requires { ⌜ RowsThere s (now rays) (now weights) (now scales) ⌝ }
+    requires { ⌜ matrixAt s ≤ length (now work) ⌝ }
+    ensures { λ r. ⌜ Formed s (now (ends .entry))
+        (sumsFrom (now (rays .entry)) (now (weights .entry)) (now (scales .entry)) (now (offsets .entry)) (now (listed .entry)))
+        (now (work .entry)) (now (work .exit)) r ⌝ }
 {
-    fill_effective(weights, scales, work, 23 * n + 4 * m, b + e);
-    sum_points(
-        n,
-        m,
-        b,
-        e,
-        ends,
-        rays,
-        weights,
-        scales,
-        points,
-        offsets,
-        rows,
-        work,
-    );
-    assemble(
-        n,
-        m,
-        b,
-        e,
-        ends,
-        rays,
-        weights,
-        scales,
-        points,
-        offsets,
-        rows,
-        work,
-    );
-    pick_anchor(work, n)
+    fill_effective(s, weights, scales, work);
+    sum_points(s, rays, weights, scales, offsets, listed, work);
+    assemble(s, ends, rays, weights, scales, work);
+    pick_anchor(work, s.cameras)
 }

@@ -1,175 +1,184 @@
-// Effective weights, point weights and mean offsets.
+// Effective weights, point weights and mean offsets: the Rust's `update_point_statistics`.
 use crate::effective;
 use crate::pull;
+use crate::work::effective_at;
+use crate::work::means_at;
+use crate::work::weights_at;
 use field::Vec3;
 use field::put3;
+use field::zero;
+use network::Shape;
+use network::Span;
+use network::links::listed_at;
+use network::links::span_of;
 ghost use mathlib.Core.Path.{_≡_};
 ghost use Prim.Native.Nat.{_+_, _*_, _<_, _≤_};
 ghost use lib.ListN.{length, set};
 ghost use Rattle.field.specs.Count.{field};
 ghost use Rattle.field.specs.Buffer.{put, store, number, vector};
-ghost use Rattle.network.specs.Network.{lent};
-ghost use Rattle.system.specs.System.{effectiveIn, pointWeight, pullSum, meanOf, meanOffset};
-ghost use Rattle.system.specs.Work.{weightsAt, meansAt};
-ghost use Rattle.system.specs.Formed.{Weighed, summed};
+ghost use Rattle.network.specs.Network.{rows, spanOf};
+ghost use Rattle.network.specs.inner.Sound.{ShapeSound, OffsetsSound, ListedSound};
+ghost use Rattle.system.specs.System.{effectiveIn, pullIn, weightSum, pullSum, meanOf, sumsFrom};
+ghost use Rattle.system.specs.Work.{weightsAt, meansAt, effectiveAt, matrixAt};
+ghost use Rattle.system.specs.inner.Formed.{RowsThere, pointStored, summed};
 
-// The effective weights of `count` rows, from `into` on.
-pub(crate) fn fill_effective(
-    weights: &[f64],
-    scales: &[f64],
-    work: &mut [f64],
-    into: usize,
-    count: usize,
-)
-    requires { ⌜ (count ≤ length (now weights)) × (count ≤ length (now scales)) × (into + count ≤ length (now work)) ⌝ }
-    ensures { λ r. ⌜ now (work .exit) ≡ store number (now (work .entry)) into (field count (effectiveIn (now (weights .entry)) (now (scales .entry)))) ⌝ }
+// The effective weights of all rows, in their segment.
+pub(crate) fn fill_effective(s: Shape, weights: &[f64], scales: &[f64], work: &mut [f64])
+    requires { ⌜ ShapeSound s ⌝ }
+    requires { ⌜ (rows s ≤ length (now weights)) × (rows s ≤ length (now scales)) × (matrixAt s ≤ length (now work)) ⌝ }
+    ensures { λ r. ⌜ now (work .exit) ≡ store number (now (work .entry)) (effectiveAt s) (field (rows s) (effectiveIn (now (weights .entry)) (now (scales .entry)))) ⌝ }
 {
+    let into = effective_at(s);
+    let count = s.bearings + s.directions;
     let mut i = 0usize;
     while i < count {
-        work[into + i] = effective(weights[i], scales[i]);
+        work[into + i] = effective(weights, scales, i);
         i += 1;
     }
 }
 
-// What the rows of a point add up to: their effective weights, and their pulls.
-struct PointSum {
-    weight: f64,
-    offset: Vec3,
-}
-
-impl PointSum {
-    fn mean(self) -> Vec3
-        ensures { λ r. ⌜ r ≡ meanOf (self .weight) (self .offset) ⌝ }
-    {
-        if self.weight > 1e-12 {
-            self.offset.div(self.weight)
-        } else {
-            Vec3 {
-                x: 0.0,
-                y: 0.0,
-                z: 0.0,
-            }
-        }
-    }
-}
-
-// The sums over the rows that point p lists, in list order. The effective weights stand in the work buffer.
-fn point_sum(
-    n: usize,
-    m: usize,
-    b: usize,
-    e: usize,
-    ends: &[usize],
-    rays: &[f64],
-    weights: &[f64],
-    scales: &[f64],
-    points: &[f64],
-    offsets: &[usize],
-    rows: &[usize],
-    work: &[f64],
-    p: usize,
-) -> PointSum
-    requires { ⌜ Weighed (lent n m b e (now ends) (now rays) (now weights) (now scales) (now points) (now offsets) (now rows)) (now work) ⌝ }
-    requires { ⌜ p < m ⌝ }
-    ensures { λ r. ⌜ r .weight ≡ pointWeight (lent n m b e (now (ends .entry)) (now (rays .entry)) (now (weights .entry)) (now (scales .entry)) (now (points .entry)) (now (offsets .entry)) (now (rows .entry))) p ⌝ }
-    ensures { λ r. ⌜ r .offset ≡ pullSum (lent n m b e (now (ends .entry)) (now (rays .entry)) (now (weights .entry)) (now (scales .entry)) (now (points .entry)) (now (offsets .entry)) (now (rows .entry))) p ⌝ }
+// W: the sum of the effective weights over the rows at the places k of the lists, in list order.
+pub fn point_weight(s: Shape, weights: &[f64], scales: &[f64], listed: &[usize], k: Span) -> f64
+    requires { ⌜ ListedSound (s .bearings) (now listed) ⌝ }
+    requires { ⌜ (rows s ≤ length (now weights)) × (rows s ≤ length (now scales)) ⌝ }
+    requires { ⌜ k .first + k .size ≤ s .bearings ⌝ }
+    ensures { λ r. ⌜ r ≡ weightSum (effectiveIn (now (weights .entry)) (now (scales .entry))) (now (listed .entry)) k ⌝ }
 {
-    let first = offsets[p];
-    let size = offsets[p + 1] - first;
-    let mut weight = 0.0;
-    let mut offset = Vec3 {
-        x: 0.0,
-        y: 0.0,
-        z: 0.0,
-    };
+    let first = k.first;
+    let size = k.size;
+    let mut sum = 0.0;
     let mut i = 0usize;
     while i < size {
-        let r = rows[first + i];
-        weight += work[23 * n + 4 * m + r];
-        offset = offset.add(pull(rays, weights, scales, r));
+        let r = listed_at(s, listed, first + i);
+        sum += effective(weights, scales, r);
         i += 1;
     }
-    PointSum {
-        weight: weight,
-        offset: offset,
-    }
+    sum
 }
 
-// The weight and the mean offset of point p, into their places.
-fn sum_point(
-    n: usize,
-    m: usize,
-    b: usize,
-    e: usize,
-    ends: &[usize],
+// The sum of the pulls over them.
+fn pull_sum(
+    s: Shape,
     rays: &[f64],
     weights: &[f64],
     scales: &[f64],
-    points: &[f64],
+    listed: &[usize],
+    k: Span,
+) -> Vec3
+    requires { ⌜ ListedSound (s .bearings) (now listed) ⌝ }
+    requires { ⌜ RowsThere s (now rays) (now weights) (now scales) ⌝ }
+    requires { ⌜ k .first + k .size ≤ s .bearings ⌝ }
+    ensures { λ v. ⌜ v ≡ pullSum (pullIn (now (rays .entry)) (now (weights .entry)) (now (scales .entry))) (now (listed .entry)) k ⌝ }
+{
+    let first = k.first;
+    let size = k.size;
+    let mut sum = zero();
+    let mut i = 0usize;
+    while i < size {
+        let r = listed_at(s, listed, first + i);
+        sum = sum.add(pull(rays, weights, scales, r));
+        i += 1;
+    }
+    sum
+}
+
+// The mean offset of a point of weight w.
+fn mean_offset(w: f64, sum: Vec3) -> Vec3
+    ensures { λ r. ⌜ r ≡ meanOf w sum ⌝ }
+{
+    if w > 1e-12 { sum.div(w) } else { zero() }
+}
+
+// The sums of point p, into their places.
+fn put_sums(s: Shape, work: &mut [f64], p: usize, t: PointSums)
+    requires { ⌜ ShapeSound s ⌝ }
+    requires { ⌜ (p < s .points) × (matrixAt s ≤ length (now work)) ⌝ }
+    ensures { λ r. ⌜ now (work .exit) ≡ put vector (set (now (work .entry)) (weightsAt s + p) (t .weight)) (meansAt s + 3 * p) (t .mean) ⌝ }
+{
+    let at = weights_at(s) + p;
+    work[at] = t.weight;
+    put3(work, means_at(s) + 3 * p, t.mean);
+}
+
+// The weight and the mean offset of a point.
+struct PointSums {
+    weight: f64,
+    mean: Vec3,
+}
+
+// The sums of point p.
+fn sum_point(
+    s: Shape,
+    rays: &[f64],
+    weights: &[f64],
+    scales: &[f64],
     offsets: &[usize],
-    rows: &[usize],
+    listed: &[usize],
+    p: usize,
+) -> PointSums
+    requires { ⌜ OffsetsSound (s .points) (s .bearings) (now offsets) ⌝ }
+    requires { ⌜ ListedSound (s .bearings) (now listed) ⌝ }
+    requires { ⌜ RowsThere s (now rays) (now weights) (now scales) ⌝ }
+    requires { ⌜ p < s .points ⌝ }
+    ensures { λ r. ⌜ (let S = sumsFrom (now (rays .entry)) (now (weights .entry)) (now (scales .entry)) (now (offsets .entry)) (now (listed .entry)) in
+        r ≡ record { weight = S .weights .point p; mean = S .mean p }) ⌝ }
+{
+    let k = span_of(s, offsets, p);
+    let w = point_weight(s, weights, scales, listed, k);
+    let v = pull_sum(s, rays, weights, scales, listed, k);
+    PointSums {
+        weight: w,
+        mean: mean_offset(w, v),
+    }
+}
+
+// The sums of point p, stored.
+fn store_point(
+    s: Shape,
+    rays: &[f64],
+    weights: &[f64],
+    scales: &[f64],
+    offsets: &[usize],
+    listed: &[usize],
     work: &mut [f64],
     p: usize,
 )
-    requires { ⌜ Weighed (lent n m b e (now ends) (now rays) (now weights) (now scales) (now points) (now offsets) (now rows)) (now work) ⌝ }
-    requires { ⌜ p < m ⌝ }
-    ensures { λ r. ⌜ now (work .exit) ≡ put vector (set (now (work .entry)) (weightsAt n + p) (pointWeight (lent n m b e (now (ends .entry)) (now (rays .entry)) (now (weights .entry)) (now (scales .entry)) (now (points .entry)) (now (offsets .entry)) (now (rows .entry))) p)) (meansAt n m + 3 * p) (meanOffset (lent n m b e (now (ends .entry)) (now (rays .entry)) (now (weights .entry)) (now (scales .entry)) (now (points .entry)) (now (offsets .entry)) (now (rows .entry))) p) ⌝ }
+    requires { ⌜ ShapeSound s ⌝ }
+    requires { ⌜ OffsetsSound (s .points) (s .bearings) (now offsets) ⌝ }
+    requires { ⌜ ListedSound (s .bearings) (now listed) ⌝ }
+    requires { ⌜ RowsThere s (now rays) (now weights) (now scales) ⌝ }
+    requires { ⌜ (p < s .points) × (matrixAt s ≤ length (now work)) ⌝ }
+    ensures { λ r. ⌜ now (work .exit) ≡ pointStored s
+        (sumsFrom (now (rays .entry)) (now (weights .entry)) (now (scales .entry)) (now (offsets .entry)) (now (listed .entry)))
+        p (now (work .entry)) ⌝ }
 {
-    let sum = point_sum(
-        n,
-        m,
-        b,
-        e,
-        ends,
-        rays,
-        weights,
-        scales,
-        points,
-        offsets,
-        rows,
-        work,
-        p,
-    );
-    let mean = sum.mean();
-    work[23 * n + p] = sum.weight;
-    put3(work, 23 * n + m + 3 * p, mean);
+    let t = sum_point(s, rays, weights, scales, offsets, listed, p);
+    put_sums(s, work, p, t);
 }
 
 // The weights and the mean offsets of all points.
 pub(crate) fn sum_points(
-    n: usize,
-    m: usize,
-    b: usize,
-    e: usize,
-    ends: &[usize],
+    s: Shape,
     rays: &[f64],
     weights: &[f64],
     scales: &[f64],
-    points: &[f64],
     offsets: &[usize],
-    rows: &[usize],
+    listed: &[usize],
     work: &mut [f64],
 )
-    requires { ⌜ Weighed (lent n m b e (now ends) (now rays) (now weights) (now scales) (now points) (now offsets) (now rows)) (now work) ⌝ }
-    ensures { λ r. ⌜ now (work .exit) ≡ summed (lent n m b e (now (ends .entry)) (now (rays .entry)) (now (weights .entry)) (now (scales .entry)) (now (points .entry)) (now (offsets .entry)) (now (rows .entry))) (now (work .entry)) m ⌝ }
+    requires { ⌜ ShapeSound s ⌝ }
+    requires { ⌜ OffsetsSound (s .points) (s .bearings) (now offsets) ⌝ }
+    requires { ⌜ ListedSound (s .bearings) (now listed) ⌝ }
+    requires { ⌜ RowsThere s (now rays) (now weights) (now scales) ⌝ }
+    requires { ⌜ matrixAt s ≤ length (now work) ⌝ }
+    ensures { λ r. ⌜ now (work .exit) ≡ summed s
+        (sumsFrom (now (rays .entry)) (now (weights .entry)) (now (scales .entry)) (now (offsets .entry)) (now (listed .entry)))
+        (now (work .entry)) (s .points) ⌝ }
 {
+    let m = s.points;
     let mut p = 0usize;
     while p < m {
-        sum_point(
-            n,
-            m,
-            b,
-            e,
-            ends,
-            rays,
-            weights,
-            scales,
-            points,
-            offsets,
-            rows,
-            work,
-            p,
-        );
+        store_point(s, rays, weights, scales, offsets, listed, work, p);
         p += 1;
     }
 }
