@@ -1,5 +1,7 @@
 -- The loop's invariant is `Bracket`, and the measure is how far hi is from lo.
+-- With `le-of-lt` the first arm is proved of a strict test too, so that such a test is refused where it is wrong: at the return.
 use Prim.Native.Nat.{_-_}
+use native.Mathlib.Nat.{le-of-lt}
 use native.Mathlib.Omega.{arith}
 use Rattle.sqrt.proofs.Bracket.{Bracket, down-room, down-less, bracket-down, up-room, up-less, bracket-up, settled}
 use Rattle.sqrt.proofs.settle.Statement.{statement}
@@ -21,9 +23,9 @@ settle-spec =
     (λ c. omega arith)
     (λ c κs. omega arith)
     (λ c. omega arith)
-    (λ c κs. (search down-room, omega arith))
-    (λ c. search down-less)
-    (λ c. search bracket-down)
+    (λ c κs. (search (down-room, le-of-lt), omega arith))
+    (λ c. search (down-less, le-of-lt))
+    (λ c. search (bracket-down, le-of-lt))
     (λ c. omega arith)
     (λ c κs. omega arith)
     (λ c. omega arith)
