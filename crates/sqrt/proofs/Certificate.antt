@@ -1,7 +1,10 @@
--- How to know `nearestRoot` with no root taken: it is q * 2 ^ k units if the root's square is A * 4 ^ k units, A has twice the format's digits, and √A lies between q - 1/2 and q + 1/2. Assumes nothing.
+-- How to know `nearestRoot` with no root taken: it is q * 2 ^ k units if the root's square is A * 4 ^ k units,
+-- A has twice the format's digits, and √A lies between q - 1/2 and q + 1/2. Assumes nothing.
 use mathlib.Core.Path.{_≡_, refl, sym, ap, _∙_, subst}
 use Prim.Native.Nat.{ℕ, zero, suc, _+_, _-_, _*_, _/_, _^_, _≤_, _<_, compare, Ordering, Ordering·lt, Ordering·eq, Ordering·gt}
-use native.Mathlib.Nat.{le-trans, le-antisymm, le-of-eq, lt-of-lt-of-le, lt-of-le-of-lt, lt-of-not-le, not-le-of-lt, le-of-suc-le-suc, mul-comm, mul-assoc, mul-suc, suc-mul, mul-le-mul, mul-le-mul-left, mul-le-mul-right, mul-lt-mul-of-pos-right, mul-mul-mul-comm, mul-add, add-mul, mul-pos, pow-suc, mul-div-cancel}
+use native.Mathlib.Nat.{le-trans, le-antisymm, le-of-eq, lt-of-lt-of-le, lt-of-le-of-lt, lt-of-not-le, not-le-of-lt, le-of-suc-le-suc, mul-comm}
+use native.Mathlib.Nat.{mul-assoc, mul-suc, suc-mul, mul-le-mul, mul-le-mul-left, mul-le-mul-right, mul-lt-mul-of-pos-right, mul-mul-mul-comm}
+use native.Mathlib.Nat.{mul-add, add-mul, mul-pos, pow-suc, mul-div-cancel}
 use native.Mathlib.Omega.{arith}
 use mathlib.Core.Bool.{Bool, true, false, not}
 use lib.Dec.{T, leb, isLe, isEq, eqb, leb→le, nleb→lt, eqb→eq, eqb-refl}
@@ -117,7 +120,8 @@ digits-of-root p A k P lo hi =
     ap (λ (z : ℕ). z - p)
     (size-is (floorRoot (A * 4 ^ k)) (p - 1 + k)
     (floor-ge (A * 4 ^ k) (2 ^ (p - 1 + k)) (le-trans (le-of-eq (shift-square (p - 1) k)) (mul-le-mul-right (4 ^ k) lo)))
-    (subst (λ (z : ℕ). floorRoot (A * 4 ^ k) < 2 ^ z) (sym (whole p k P)) (floor-lt (A * 4 ^ k) (2 ^ (p + k)) (lt-of-lt-of-le (mul-lt-mul-of-pos-right hi (four-pos k)) (le-of-eq (sym (shift-square p k)))))))
+    (subst (λ (z : ℕ). floorRoot (A * 4 ^ k) < 2 ^ z) (sym (whole p k P))
+    (floor-lt (A * 4 ^ k) (2 ^ (p + k)) (lt-of-lt-of-le (mul-lt-mul-of-pos-right hi (four-pos k)) (le-of-eq (sym (shift-square p k)))))))
     ∙ rest p k P
   where
     whole : (p k : ℕ) → 0 < p → suc (p - 1 + k) ≡ p + k

@@ -4,7 +4,10 @@
 use mathlib.Core.Path.{_≡_, sym, ap, _∙_, subst}
 use mathlib.Core.Logic.{_⊎_, inl, inr}
 use Prim.Native.Nat.{ℕ, suc, _+_, _-_, _*_, _/_, _%_, _^_, _≤_, _<_, compare, Ordering, Ordering·lt, Ordering·eq, Ordering·gt}
-use native.Mathlib.Nat.{le-refl, le-trans, le-of-eq, le-of-lt, lt-of-lt-of-le, lt-of-le-of-lt, lt-of-not-le, not-le-of-lt, le-of-suc-le-suc, eq-zero-or-pos, mul-comm, mul-assoc, mul-le-mul, mul-le-mul-left, mul-le-mul-right, mul-lt-mul-of-pos-right, lt-of-mul-lt-mul-right, mul-mul-mul-comm, mul-pos, add-le-add, add-mul, suc-mul, le-div-iff-mul-le, div-lt-iff-lt-mul, div-div-eq-div-mul, eq-of-mul-eq-mul-right, le-of-mul-le-mul-right, pow-succ'}
+use native.Mathlib.Nat.{le-refl, le-trans, le-of-eq, le-of-lt, lt-of-lt-of-le, lt-of-le-of-lt, lt-of-not-le, not-le-of-lt, le-of-suc-le-suc}
+use native.Mathlib.Nat.{eq-zero-or-pos, mul-comm, mul-assoc, mul-le-mul, mul-le-mul-left, mul-le-mul-right, mul-lt-mul-of-pos-right}
+use native.Mathlib.Nat.{lt-of-mul-lt-mul-right, mul-mul-mul-comm, mul-pos, add-le-add, add-mul, suc-mul, le-div-iff-mul-le, div-lt-iff-lt-mul}
+use native.Mathlib.Nat.{div-div-eq-div-mul, eq-of-mul-eq-mul-right, le-of-mul-le-mul-right, pow-succ'}
 use native.Mathlib.Decide.{decLe}
 use native.Mathlib.Omega.{arith}
 use lib.Pow.{pow-add, pow-pos, pow-mono}
@@ -168,8 +171,12 @@ no-tie p s k b i P F B I e = go (decLe i (k + k))
     go (no f) =
         let l : k + k < i = lt-of-not-le f in
         let c : b * 2 ^ (i - (k + k)) * 2 ^ (k + k) ≡ (2 * s + 1) * (2 * s + 1) * 2 ^ (k + k) =
-        mul-assoc b (2 ^ (i - (k + k))) (2 ^ (k + k)) ∙ ap (λ (z : ℕ). b * z) (sym (pow-add 2 (i - (k + k)) (k + k)) ∙ ap (λ (z : ℕ). 2 ^ z) (sym (join l))) ∙ e ∙ ap (λ (z : ℕ). (2 * s + 1) * (2 * s + 1) * z) power in
-        no-parity (b * 2 ^ (i - (k + k))) s ((2 * s + 1) * (2 * s + 1)) (even (i - (k + k)) (left l)) (odd-square s) (eq-of-mul-eq-mul-right (2 ^ (k + k)) (pow-pos (k + k)) (b * 2 ^ (i - (k + k))) ((2 * s + 1) * (2 * s + 1)) c)
+        mul-assoc b (2 ^ (i - (k + k))) (2 ^ (k + k))
+        ∙ ap (λ (z : ℕ). b * z) (sym (pow-add 2 (i - (k + k)) (k + k)) ∙ ap (λ (z : ℕ). 2 ^ z) (sym (join l)))
+        ∙ e
+        ∙ ap (λ (z : ℕ). (2 * s + 1) * (2 * s + 1) * z) power in
+        no-parity (b * 2 ^ (i - (k + k))) s ((2 * s + 1) * (2 * s + 1)) (even (i - (k + k)) (left l)) (odd-square s)
+        (eq-of-mul-eq-mul-right (2 ^ (k + k)) (pow-pos (k + k)) (b * 2 ^ (i - (k + k))) ((2 * s + 1) * (2 * s + 1)) c)
 
 -- ---- the digits that are kept and dropped
 module _ (p n den : ℕ) (P : 0 < p) (D : 0 < den) where
@@ -235,7 +242,8 @@ multiple f n den =
 abbrev pub inUnits : Format → ℕ → ℕ → ℕ
 inUnits f n den = multiple f n den * 2 ^ (size (floorRoot (n / den)) - prec f)
 
--- Every value of the format is a * 2 ^ j units for an a below 2 ^ prec, and each but the result is farther. √(n / den) is the root of a value of the format, so 4 * n / den is such a number too, and even.
+-- Every value of the format is a * 2 ^ j units for an a below 2 ^ prec, and each but the result is farther.
+-- √(n / den) is the root of a value of the format, so 4 * n / den is such a number too, and even.
 pub nearer : (f : Format) (n den a j b i : ℕ) → 0 < den → a < 2 ^ prec f → b < 2 ^ prec f → 0 < i → 4 * n ≡ b * 2 ^ i * den → Nearer n den (inUnits f n den) (a * 2 ^ j)
 nearer f n den a j b i D A B I e =
     let p = prec f in

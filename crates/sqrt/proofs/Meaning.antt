@@ -2,7 +2,9 @@
 use mathlib.Core.Path.{_≡_, refl, sym, ap, _∙_, subst}
 use mathlib.Core.Logic.{_⊎_, inl, inr}
 use Prim.Native.Nat.{ℕ, zero, suc, _+_, _-_, _*_, _/_, _^_, _≤_, _<_}
-use native.Mathlib.Nat.{le-trans, le-of-eq, le-of-lt, lt-of-lt-of-le, lt-of-le-of-lt, lt-of-not-le, not-le-of-lt, le-of-suc-le-suc, mul-one, mul-comm, mul-assoc, mul-right-comm, mul-mul-mul-comm, mul-le-mul, mul-le-mul-left, mul-le-mul-right, mul-lt-mul-of-pos-right, lt-of-mul-lt-mul-right, mul-pos, add-mul, two-mul, pow-succ', div-lt-iff-lt-mul, lt-suc-self, le-antisymm, add-comm}
+use native.Mathlib.Nat.{le-trans, le-of-eq, le-of-lt, lt-of-lt-of-le, lt-of-le-of-lt, lt-of-not-le, not-le-of-lt, le-of-suc-le-suc, mul-one, mul-comm}
+use native.Mathlib.Nat.{mul-assoc, mul-right-comm, mul-mul-mul-comm, mul-le-mul, mul-le-mul-left, mul-le-mul-right, mul-lt-mul-of-pos-right}
+use native.Mathlib.Nat.{lt-of-mul-lt-mul-right, mul-pos, add-mul, two-mul, pow-succ', div-lt-iff-lt-mul, lt-suc-self, le-antisymm, add-comm}
 use native.Mathlib.Omega.{arith}
 use mathlib.Core.Bool.{true, false}
 use lib.Dec.{T, ltb, lit<, lit≤}
@@ -67,7 +69,9 @@ two-more binary64 = lit≤ tt
 
 square-of-sum : (a b : ℕ) → 2 ^ (a + b) * 2 ^ (a + b) ≡ 2 ^ b * (2 ^ a * 2 ^ a) * 2 ^ b
 square-of-sum a b =
-    ap (λ (z : ℕ). z * z) (pow-add 2 a b) ∙ mul-mul-mul-comm (2 ^ a) (2 ^ b) (2 ^ a) (2 ^ b) ∙ sym (mul-assoc (2 ^ a * 2 ^ a) (2 ^ b) (2 ^ b)) ∙ ap (λ (z : ℕ). z * 2 ^ b) (mul-comm (2 ^ a * 2 ^ a) (2 ^ b))
+    ap (λ (z : ℕ). z * z) (pow-add 2 a b)
+    ∙ mul-mul-mul-comm (2 ^ a) (2 ^ b) (2 ^ a) (2 ^ b)
+    ∙ sym (mul-assoc (2 ^ a * 2 ^ a) (2 ^ b) (2 ^ b)) ∙ ap (λ (z : ℕ). z * 2 ^ b) (mul-comm (2 ^ a * 2 ^ a) (2 ^ b))
 
 module _ (f : Format) (n c : ℕ) (C : 0 < c) (h : n < 2 ^ suc (emax f) * (2 ^ low f * 2 ^ low f) * c) where
   twice-whole : 2 * floorRoot (n / c) < 2 ^ (low f + suc (emax f))
@@ -104,7 +108,9 @@ module _ (f : Format) (a c : ℕ) (C : 0 < c) (h : a < 2 ^ suc (emax f) * c) whe
   square-is = ap (λ (z : ℕ). a * z) (ap (λ (z : ℕ). 2 ^ z) (two-mul (low f)) ∙ pow-add 2 (low f) (low f))
 
   below-top : a * 2 ^ (2 * low f) < 2 ^ suc (emax f) * (2 ^ low f * 2 ^ low f) * c
-  below-top = lt-of-le-of-lt (le-of-eq square-is) (lt-of-lt-of-le (mul-lt-mul-of-pos-right h (mul-pos (pow-pos (low f)) (pow-pos (low f)))) (le-of-eq (mul-right-comm (2 ^ suc (emax f)) c (2 ^ low f * 2 ^ low f))))
+  below-top =
+      lt-of-le-of-lt (le-of-eq square-is)
+      (lt-of-lt-of-le (mul-lt-mul-of-pos-right h (mul-pos (pow-pos (low f)) (pow-pos (low f)))) (le-of-eq (mul-right-comm (2 ^ suc (emax f)) c (2 ^ low f * 2 ^ low f))))
 
   fine : inUnits f (a * 2 ^ (2 * low f)) c < 2 ^ (low f + suc (emax f))
   fine = no-overflow f (a * 2 ^ (2 * low f)) c C below-top
@@ -138,7 +144,11 @@ four-squares : (N D b j l : ℕ) → N * 2 ^ l ≡ b * 2 ^ j * D → 4 * (N * (2
 four-squares N D b j l g =
     let L = 2 ^ l in
     let B = b * 2 ^ (j + l) in
-    ap (λ (z : ℕ). 4 * z) (sym (mul-assoc N L L) ∙ ap (λ (z : ℕ). z * L) g ∙ mul-right-comm (b * 2 ^ j) D L ∙ ap (λ (z : ℕ). z * D) (mul-assoc b (2 ^ j) L ∙ ap (λ (z : ℕ). b * z) (sym (pow-add 2 j l))))
+    ap (λ (z : ℕ). 4 * z)
+    (sym (mul-assoc N L L)
+    ∙ ap (λ (z : ℕ). z * L) g
+    ∙ mul-right-comm (b * 2 ^ j) D L
+    ∙ ap (λ (z : ℕ). z * D) (mul-assoc b (2 ^ j) L ∙ ap (λ (z : ℕ). b * z) (sym (pow-add 2 j l))))
     ∙ sym (mul-assoc 4 B D) ∙ ap (λ (z : ℕ). z * D) (mul-comm 4 B ∙ mul-assoc b (2 ^ (j + l)) 4 ∙ ap (λ (z : ℕ). b * z) (sym (pow-add 2 (j + l) 2)))
 
 pub root-is-nearest : (f : Format) (x : Float) → T (fits f x) → T (positive x) → NearestToRoot f x (root f x)
@@ -162,9 +172,14 @@ root-is-nearest f x F p =
           let e = value→cross r Q (2 ^ low f) v in
           record {
             below = λ h. low-side (2 ^ low f) (num x) (den x) Q (g .a * 2 ^ g .j) (num r) (den r) (num y) (den y) (pow-pos (low f)) (den-pos r) (den-pos y) e (g .units-of)
-                (lt-of-lt-of-le (u .below (less-units (2 ^ low f) (num x) (den x) Q (g .a * 2 ^ g .j) (num r) (den r) (num y) (den y) (pow-pos (low f)) (den-pos r) (den-pos y) e (g .units-of) (lt→cross y r c s h))) (le-of-eq (ap (λ (z : ℕ). 4 * z) sq)));
+                (lt-of-lt-of-le
+                (u .below
+                (less-units (2 ^ low f) (num x) (den x) Q (g .a * 2 ^ g .j) (num r) (den r) (num y) (den y) (pow-pos (low f)) (den-pos r) (den-pos y) e (g .units-of) (lt→cross y r c s h)))
+                (le-of-eq (ap (λ (z : ℕ). 4 * z) sq)));
             above = λ h. high-side (2 ^ low f) (num x) (den x) Q (g .a * 2 ^ g .j) (num r) (den r) (num y) (den y) (pow-pos (low f)) (den-pos r) (den-pos y) e (g .units-of)
-                (lt-of-le-of-lt (le-of-eq (ap (λ (z : ℕ). 4 * z) (sym sq))) (u .above (more-units (2 ^ low f) (num x) (den x) Q (g .a * 2 ^ g .j) (num r) (den r) (num y) (den y) (pow-pos (low f)) (den-pos r) (den-pos y) e (g .units-of) (lt→cross r y s c h))));
+                (lt-of-le-of-lt (le-of-eq (ap (λ (z : ℕ). 4 * z) (sym sq)))
+                (u .above
+                (more-units (2 ^ low f) (num x) (den x) Q (g .a * 2 ^ g .j) (num r) (den r) (num y) (den y) (pow-pos (low f)) (den-pos r) (den-pos y) e (g .units-of) (lt→cross r y s c h))));
           };
     })
   where

@@ -33,7 +33,9 @@ differ x h e = omega arith
 
 field-some : (t x : ℕ) → suc x < 2047 → ofFields binary64 false (suc x) t ≡ odd 53 false (2 ^ 52 + t) x 1074
 unfolding ofFields
-field-some t x h = cond-no (eqb (suc x) 2047) (cond (eqb t 0) (inf false) nan) (odd 53 false (2 ^ 52 + t) x 1074) (not-T (eqb (suc x) 2047) (λ (u : T (eqb (suc x) 2047)). differ x h (eqb→eq (suc x) 2047 u)))
+field-some t x h =
+    cond-no (eqb (suc x) 2047) (cond (eqb t 0) (inf false) nan) (odd 53 false (2 ^ 52 + t) x 1074)
+    (not-T (eqb (suc x) 2047) (λ (u : T (eqb (suc x) 2047)). differ x h (eqb→eq (suc x) 2047 u)))
 
 pub subnormal : (b : ℕ) → b < 2 ^ 52 → ofBits binary64 b ≡ odd 53 false (b % 2 ^ 52) 0 1074
 subnormal b h = positive-is b (wide b h) ∙ ap (λ (x : ℕ). ofFields binary64 false x (b % 2 ^ 52)) (none b h) ∙ field-zero (b % 2 ^ 52)
@@ -85,7 +87,8 @@ enough (suc d) n h k = go (n % 2) refl (enough d (n / 2))
     some : (n : ℕ) → 0 < n → n % 2 ≡ 0 → 0 < n / 2
     some n l e = omega arith
 
-    go : (r : ℕ) → n % 2 ≡ r → (0 < n / 2 → n / 2 < 2 ^ d → trailingZeros (suc d) (n / 2) ≡ trailingZeros d (n / 2)) → under r (trailingZeros (suc d) (n / 2)) ≡ under r (trailingZeros d (n / 2))
+    go : (r : ℕ) → n % 2 ≡ r → (0 < n / 2 → n / 2 < 2 ^ d → trailingZeros (suc d) (n / 2) ≡ trailingZeros d (n / 2)) →
+        under r (trailingZeros (suc d) (n / 2)) ≡ under r (trailingZeros d (n / 2))
     go zero e ih = ap suc (ih (some n h e) (halves n (2 ^ suc d) (2 ^ d) (two-pow-succ d) k))
     go (suc r) e ih = refl
 

@@ -1,5 +1,5 @@
 -- The values that `sqrt` tells apart: above zero, below zero, and neither. Assumes nothing.
-use mathlib.Core.Path.{_≡_, refl, sym, ap, _∙_}
+use mathlib.Core.Path.{_≡_, refl, sym, ap, _∙_, subst}
 use mathlib.Core.Logic.{inl, inr}
 use Prim.Native.Nat.{ℕ, zero, suc, _+_, _*_, _/_, _%_, _^_, _<_, _≤_}
 use native.Mathlib.Nat.{eq-zero-or-pos, mul-pos, zero-lt-suc, lt-of-lt-of-le, lt-of-le-of-lt, le-add-right, zero-mul, le-of-eq}
@@ -13,6 +13,7 @@ use lib.Ieee.Fits.{up-pos}
 use borrow.Author.Tests.{lt-ltb, ltb-true, ltb-false}
 use Rattle.double.proofs.Order.{lt-no-nan, zero-is}
 use Rattle.sqrt.specs.Root.{root}
+use Rattle.sqrt.specs.inner.Steps.{Rooted}
 use Rattle.sqrt.proofs.Patterns.{ofBits-is}
 
 -- +0, as MIR has the literal
@@ -30,9 +31,13 @@ not-over-zero : over (ofBits binary64 0) ≡ true → ⊥
 unfolding lt ofBits
 not-over-zero h = absurd (false≢true h)
 
-pub bits-pos : (y : Float) → T (fits binary64 y) → lt z0 y ≡ true → 0 < toBits binary64 y
+-- the pattern of a y that the format holds is of y
+of-pattern : (y : Float) → fits binary64 y ≡ true → ofBits binary64 (toBits binary64 y) ≡ y
+of-pattern y f = ofBits-toBits binary64 y (subst T (sym f) tt)
+
+pub bits-pos : (y : Float) → fits binary64 y ≡ true → lt z0 y ≡ true → 0 < toBits binary64 y
 bits-pos y f h = elim (eq-zero-or-pos (toBits binary64 y)) [
-  | inl e ↦ absurd (not-over-zero (ap over (ap (ofBits binary64) (sym e) ∙ ofBits-toBits binary64 y f) ∙ sym (over-is y) ∙ h))
+  | inl e ↦ absurd (not-over-zero (ap over (ap (ofBits binary64) (sym e) ∙ of-pattern y f) ∙ sym (over-is y) ∙ h))
   | inr p ↦ p
 ]
 
@@ -57,7 +62,8 @@ fields-negative (suc x) t = go (eqb (suc x) 2047) (eqb t 0)
 
 bits-negative : (b : ℕ) → 2 ^ 63 ≤ b → over (ofBits binary64 b) ≡ false
 bits-negative b h =
-    ap over (ofBits-is b ∙ ap (λ (s : Bool). ofFields binary64 s (b % 2 ^ 63 / 2 ^ 52) (b % 2 ^ 52)) (is-true (leb (2 ^ 63) b) (le→leb (2 ^ 63) b h))) ∙ fields-negative (b % 2 ^ 63 / 2 ^ 52) (b % 2 ^ 52)
+    ap over (ofBits-is b ∙ ap (λ (s : Bool). ofFields binary64 s (b % 2 ^ 63 / 2 ^ 52) (b % 2 ^ 52)) (is-true (leb (2 ^ 63) b) (le→leb (2 ^ 63) b h)))
+    ∙ fields-negative (b % 2 ^ 63 / 2 ^ 52) (b % 2 ^ 52)
 
 -- ---- from the infinity's pattern up, a value above zero is the infinity
 infinity : ofBits binary64 0x7ff0_0000_0000_0000 ≡ inf false
@@ -78,12 +84,14 @@ only-infinity b h l = go (leb (2 ^ 63) b) (leb→le (2 ^ 63) b) (nleb→lt (2 ^ 
     go true p n = absurd (false≢true (sym (bits-negative b (p tt)) ∙ h))
     go false p n =
         ap (ofBits binary64)
-        (exactly b (n tt) (ltb-false (2047 * 2 ^ 52) (b % 2 ^ 63) (sym (nanBits-above binary64 b) ∙ nanBits-is binary64 b ∙ is-false (isNan (ofBits binary64 b)) (lt-no-nan (fin false 0 (pos 0)) (ofBits binary64 b) h .1))) l)
+        (exactly b (n tt)
+        (ltb-false (2047 * 2 ^ 52) (b % 2 ^ 63) (sym (nanBits-above binary64 b) ∙ nanBits-is binary64 b
+        ∙ is-false (isNan (ofBits binary64 b)) (lt-no-nan (fin false 0 (pos 0)) (ofBits binary64 b) h .1))) l)
         ∙ infinity
 
-pub root-of-infinity : (y : Float) → T (fits binary64 y) → lt z0 y ≡ true → 0x7ff0_0000_0000_0000 ≤ toBits binary64 y → y ≡ root binary64 y
+pub root-of-infinity : (y : Float) → fits binary64 y ≡ true → lt z0 y ≡ true → 0x7ff0_0000_0000_0000 ≤ toBits binary64 y → y ≡ root binary64 y
 root-of-infinity y f h l =
-    let e = ofBits-toBits binary64 y f in
+    let e = of-pattern y f in
     let i : y ≡ inf false = sym e ∙ only-infinity (toBits binary64 y) (ap over e ∙ sym (over-is y) ∙ h) l in
     i ∙ root-infinity ∙ ap (root binary64) (sym i)
 
@@ -94,7 +102,7 @@ none h e g = omega arith
 lower : {a b : ℕ} → a < b → b ≡ 0 → ⊥
 lower h e = omega arith
 
-pub root-below : (y : Float) → lt y z0 ≡ true → root binary64 y ≡ nan
+root-below : (y : Float) → lt y z0 ≡ true → root binary64 y ≡ nan
 unfolding lt root
 root-below y h = go y (ap (λ (z : Float). lt y z) (sym (zero-is binary64)) ∙ h)
   where
@@ -122,6 +130,13 @@ root-neither y h k = go y (sym (over-is y) ∙ h) (ap (λ (z : Float). lt y z) (
     go (fin false (suc m) e) h k = absurd (false≢true (sym h ∙ lt-ltb (0 * down e) (suc m * up e * 1) (lt-of-le-of-lt (le-of-eq (zero-mul (down e))) (size-pos m e))))
     go (fin true (suc m) e) h k = absurd (false≢true (sym k ∙ lt-ltb 0 (suc m * up e * 1 + 0 * down e) (lt-of-lt-of-le (size-pos m e) (le-add-right (suc m * up e * 1) (0 * down e)))))
 
-pub zero-by-zero : div binary64 z0 z0 ≡ nan
+zero-by-zero : div binary64 z0 z0 ≡ nan
 unfolding div ofBits
 zero-by-zero = refl
+
+pub root-negative : (y : Float) → lt y z0 ≡ true → div binary64 z0 z0 ≡ root binary64 y
+root-negative y h = zero-by-zero ∙ sym (root-below y h)
+
+-- ---- by the pattern
+pub root-by-pattern : (y : Float) (r : ℕ) → fits binary64 y ≡ true → Rooted (toBits binary64 y) r → ofBits binary64 r ≡ root binary64 y
+root-by-pattern y r f h = h .is ∙ ap (root binary64) (of-pattern y f)

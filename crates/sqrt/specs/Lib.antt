@@ -1,3 +1,3 @@
 pub mod Root
 pub mod Nearest
-pub mod Steps
+pub mod inner

@@ -1,5 +1,6 @@
 -- IEEE 754's squareRoot (2019 edition): the root rounded once (5.4.1), to nearest and at a tie to the even value (4.3.1). Definitions only.
--- The sign: √-0 is -0, and every other root that is a number is positive (6.3). An operand below zero, -∞ among them, is invalid and gives a NaN (7.2).
+-- The sign: √-0 is -0, and every other root that is a number is positive (6.3).
+-- An operand below zero, -∞ among them, is invalid and gives a NaN (7.2).
 use Prim.Native.Nat.{ℕ, zero, suc, _+_, _-_, _*_, _/_, _^_, compare}
 use mathlib.Core.Bool.{true, false, cond}
 use lib.Dec.{leb}

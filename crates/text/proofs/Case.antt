@@ -8,12 +8,13 @@ use lib.ListN.{length}
 use lib.Ieee.{nan, binary64, ofBits, toBits, size}
 use Rattle.field.specs.declared.Vec3.{Vec3}
 use Rattle.field.specs.Vec.{origin, null}
-use Rattle.text.specs.Text.{ascii, digit, hex, digits, decimal, bits, named, spaced, vectorLine, numbered, vectorLines, countsLine, partsLine, reportLine, placedText, refusedText}
+use Rattle.text.specs.Text.{ascii, digit, hex, digits, decimal, bits, named, spaced, coordinates, vectorLine, numbered, vectorLines, countsLine, partsLine, reportLine, placedText, refusedText}
 
 -- the whole case prints exactly its five lines
 pub whole-case : placedText 1 1 1 0 1 0 2 0 (origin ∷ []) (record { x = null; y = null; z = ofBits binary64 0x4000000000000000 } ∷ []) ≡
-    ascii "cameras 1 points 1 bearings 1 directions 0\nparts 1\nanchor 0 route 2 rounds 0\nc 0 0000000000000000 0000000000000000 0000000000000000\np 0 0000000000000000 0000000000000000 4000000000000000\n"
-unfolding ascii digit hex digits decimal bits named spaced vectorLine numbered vectorLines countsLine partsLine reportLine placedText toBits ofBits size
+    ascii "cameras 1 points 1 bearings 1 directions 0\nparts 1\nanchor 0 route 2 rounds 0\n" ++
+    ascii "c 0 0000000000000000 0000000000000000 0000000000000000\np 0 0000000000000000 0000000000000000 4000000000000000\n"
+unfolding ascii digit hex digits decimal bits named spaced coordinates vectorLine numbered vectorLines countsLine partsLine reportLine placedText toBits ofBits size
 whole-case = refl
 
 -- a refusal

@@ -1,8 +1,9 @@
 -- Laws of `Put`: texts put one after another, and a buffer without room. Assumes nothing.
 use mathlib.Core.Path.{_≡_, refl, sym, ap, subst, _∙_}
 use mathlib.Core.List.{List, [], _∷_, _++_}
-use Prim.Native.Nat.{ℕ, suc, _+_, _-_, _*_, _/_, _≤_, _<_}
+use Prim.Native.Nat.{ℕ, _+_, _-_, _*_, _/_, _≤_, _<_}
 use native.Mathlib.Nat.{add-zero}
+use native.Mathlib.Numerals.{add-one}
 use native.Mathlib.Omega.{arith}
 use mathlib.Core.Bool.{Bool, true, false}
 use lib.Dec.{leb}
@@ -19,15 +20,21 @@ unfolding write
 put-none l p k = record { written = record { bytes = refl; next = sym (add-zero p) }; within = omega arith }
 
 -- a text put after another
-pub written-then : {l m n : List ℕ} {p q r : ℕ} {xs ys : List ℕ} → Written l m p xs q → Written m n q ys r → Written l n p (xs ++ ys) r
+written-then : {l m n : List ℕ} {p q r : ℕ} {xs ys : List ℕ} → Written l m p xs q → Written m n q ys r → Written l n p (xs ++ ys) r
 written-then {l} {m} {n} {p} {q} {r} {xs} {ys} a b =
     record {
       bytes = rw (b .bytes, a .bytes, a .next) (write-append l p xs ys);
       next = rw length-append (omega (arith, a .next, b .next));
     }
 
-pub put-then : {l m n : List ℕ} {p q r j k : ℕ} {xs ys : List ℕ} → Put l m p xs j q → Put m n q ys k r → Put l n p (xs ++ ys) (j + k) r
-put-then a b = record { written = written-then (a .written) (b .written); within = omega (arith, a .within, b .within) }
+-- two texts, and three
+pub put-two : {l l₁ l₂ : List ℕ} {p p₁ p₂ k₁ k₂ k : ℕ} {a b : List ℕ} →
+    Put l l₁ p a k₁ p₁ → Put l₁ l₂ p₁ b k₂ p₂ → k₁ + k₂ ≡ k → Put l l₂ p (a ++ b) k p₂
+put-two x y h = record { written = written-then (x .written) (y .written); within = omega (arith, x .within, y .within) }
+
+pub put-three : {l l₁ l₂ l₃ : List ℕ} {p p₁ p₂ p₃ k₁ k₂ k₃ k : ℕ} {a b c : List ℕ} →
+    Put l l₁ p a k₁ p₁ → Put l₁ l₂ p₁ b k₂ p₂ → Put l₂ l₃ p₂ c k₃ p₃ → k₁ + k₂ + k₃ ≡ k → Put l l₃ p (a ++ b ++ c) k p₃
+put-three x y z h = put-two (put-two x y refl) z h
 
 -- a byte stored
 pub put-one : (l : List ℕ) (p : ℕ) (x : ℕ) → Put l (set l p x) p (x ∷ []) 1 (p + 1)
@@ -39,17 +46,24 @@ put-as {l} {m} {p} {r} {j} {k} {xs} {ys} a e h =
     let n : length xs ≡ length ys = ap length e in
     record { written = subst (λ (t : List ℕ). Written l m p t r) e (a .written); within = omega (arith, a .written .next) }
 
--- a byte more of a copy, and the whole copy
-pub copy-more : (l m : List ℕ) (p : ℕ) (s : List ℕ) (i : ℕ) → m ≡ write l p (take i s) → i < length s → set m (p + i) (getD s i 0) ≡ write l p (take (suc i) s)
+-- a copy of the first i bytes of s: none, one more, and all
+pub copy-none : (l : List ℕ) (p : ℕ) (s : List ℕ) → l ≡ write l p (take 0 s)
+unfolding write
+copy-none l p s = refl
+
+pub copy-more : (l m : List ℕ) (p : ℕ) (s : List ℕ) (i : ℕ) → m ≡ write l p (take i s) → i < length s →
+    set m (p + i) (getD s i 0) ≡ write l p (take (i + 1) s)
 copy-more l m p s i e h =
     let n : length (take i s) ≡ i = length-take-le i s (omega arith) in
-    rw (e, take-suc s i 0 h)
+    rw (add-one, e, take-suc s i 0 h)
     (set-write (write l p (take i s)) (p + i) (getD s i 0)
     ∙ subst (λ (k : ℕ). write (write l p (take i s)) (p + k) (getD s i 0 ∷ []) ≡ write l p (take i s ++ (getD s i 0 ∷ []))) n
     (write-append l p (take i s) (getD s i 0 ∷ [])))
 
-pub copied : (l m : List ℕ) (p : ℕ) (s : List ℕ) (i : ℕ) → m ≡ write l p (take i s) → i ≡ length s → Put l m p s (length s) (p + i)
-copied l m p s i e h = record { written = record { bytes = e ∙ ap (write l p) (rw h (take-length s)); next = ap (λ (k : ℕ). p + k) h }; within = omega arith }
+pub copied : (l m : List ℕ) (p : ℕ) (s : List ℕ) (i : ℕ) → m ≡ write l p (take i s) → i ≤ length s → length s ≤ i → Put l m p s (length s) (p + i)
+copied l m p s i e h k =
+    let n : i ≡ length s = omega arith in
+    record { written = record { bytes = e ∙ rw (n, take-length s); next = ap (λ (j : ℕ). p + j) n }; within = omega arith }
 
 -- the test for room, by a quotient that cannot wrap
 pub room-for : (v n : ℕ) → 256 ≤ n → leb v ((n - 256) / 74) ≡ leb (256 + 74 * v) n

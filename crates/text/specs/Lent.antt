@@ -1,4 +1,4 @@
--- How a text stands in a lent buffer of bytes.
+-- How a text stands in a lent buffer of bytes. The contracts of the entry points `put_placed` and `put_refused` cite it.
 use mathlib.Core.Path.{_≡_}
 use mathlib.Core.List.{List, []}
 use mathlib.Core.Bool.{cond}
@@ -8,6 +8,9 @@ use lib.ListN.{length}
 use lib.Ieee.{Float}
 use Rattle.field.specs.declared.Vec3.{Vec3}
 use Rattle.field.specs.Buffer.{write, load, vector}
+use Rattle.text.specs.declared.Counts.{Counts}
+use Rattle.text.specs.declared.Report.{Report}
+use Rattle.text.specs.Text.{placedText}
 
 -- The text stands in the buffer from place p on, every other byte is as it was, and r is the place after the text.
 pub record Written (before after : List ℕ) (p : ℕ) (text : List ℕ) (r : ℕ) : Type 0 where
@@ -19,7 +22,7 @@ pub record Put (before after : List ℕ) (p : ℕ) (text : List ℕ) (k r : ℕ)
   pub written : Written before after p text r
   pub within : r ≤ p + k
 
--- the bytes that a buffer must have: enough for the first three lines, or a refusal, and 74 for each vector, whose line takes no more
+-- the bytes that a buffer must have: 256, which the lines above those of the vectors or a refusal do not exceed, and 74 for the line of each vector
 abbrev pub room : (vectors : ℕ) → ℕ
 room vectors = 256 + 74 * vectors
 
@@ -27,6 +30,17 @@ room vectors = 256 + 74 * vectors
 abbrev pub fitting : (vectors : ℕ) → (out text : List ℕ) → List ℕ
 fitting vectors out text = cond (leb (room vectors) (length out)) text []
 
+-- that text stands at the front of the buffer, and r is its length: 0, and the buffer as it was, where there is no room
+abbrev pub PutIfRoom : (before after : List ℕ) → (vectors : ℕ) → (text : List ℕ) → (r : ℕ) → Type 0
+PutIfRoom before after vectors text r = Put before after 0 (fitting vectors before text) (length before) r
+
 -- the vectors whose numbers a buffer holds: three for each, and a rest of one or two numbers is none
 unfoldable pub vectorsOf : List Float → List Vec3
 vectorsOf l = load vector l 0 (length l / 3)
+
+-- What `put_placed` promises: c and p are the numbers of the lines of the counts and of the report, and cs and ps hold the vectors' numbers.
+abbrev pub PutPlaced : (c : Counts) (parts : ℕ) (p : Report) (cs ps : List Float) → (before after : List ℕ) → (r : ℕ) → Type 0
+PutPlaced c parts p cs ps before after r =
+    PutIfRoom before after (length cs / 3 + length ps / 3)
+    (placedText (c .cameras) (c .points) (c .bearings) (c .directions) parts (p .anchor) (p .route) (p .rounds) (vectorsOf cs) (vectorsOf ps))
+    r

@@ -48,9 +48,13 @@ newline = 10 ∷ []
 unfoldable pub spaced : Float → List ℕ
 spaced x = 32 ∷ bits x
 
+-- 'the bits of x, y, z', each after a space
+unfoldable pub coordinates : Vec3 → List ℕ
+coordinates v = spaced (v .x) ++ spaced (v .y) ++ spaced (v .z)
+
 -- 'each camera, then each point, with its number and the bits of x, y, z': the byte c or p, the number, the bits
 unfoldable pub vectorLine : ℕ → ℕ → Vec3 → List ℕ
-vectorLine tag i v = named (tag ∷ 32 ∷ []) i ++ spaced (v .x) ++ spaced (v .y) ++ spaced (v .z) ++ newline
+vectorLine tag i v = named (tag ∷ 32 ∷ []) i ++ coordinates v ++ newline
 
 -- the lines of the vectors f, numbered from i on
 unfoldable pub numbered : ℕ → ℕ → List Vec3 → List ℕ
@@ -63,7 +67,8 @@ vectorLines tag f = numbered tag 0 f
 
 -- 'counts': the line `cameras 1 points 1 bearings 1 directions 0`
 unfoldable pub countsLine : (n m b e : ℕ) → List ℕ
-countsLine n m b e = named (ascii "cameras ") n ++ named (ascii " points ") m ++ named (ascii " bearings ") b ++ named (ascii " directions ") e ++ newline
+countsLine n m b e =
+    named (ascii "cameras ") n ++ named (ascii " points ") m ++ named (ascii " bearings ") b ++ named (ascii " directions ") e ++ newline
 
 -- 'number of parts': the line `parts 1`
 unfoldable pub partsLine : ℕ → List ℕ

@@ -4,11 +4,27 @@ use field::Vec3;
 use field::get3;
 ghost use mathlib.Core.Path.{_≡_};
 ghost use mathlib.Core.List.{[], _∷_, _++_};
-ghost use Prim.Native.Nat.{_+_, _*_, _/_, _≤_, _<_};
+ghost use Prim.Native.Nat.{_+_, _/_, _≤_, _<_};
 ghost use lib.Dec.{leb};
 ghost use lib.ListN.{length};
-ghost use Rattle.text.specs.Text.{digit, hex, decimal, spaced, named, vectorLine, vectorLines, countsLine, partsLine, reportLine, placedText, refusedText};
-ghost use Rattle.text.specs.Lent.{Put, room, fitting, vectorsOf};
+ghost use Rattle.text.specs.Text.{digit, hex, decimal, spaced, named, coordinates, vectorLine, vectorLines, partsLine, refusedText};
+ghost use Rattle.text.specs.Lent.{Put, PutIfRoom, PutPlaced, room, vectorsOf};
+ghost use Rattle.text.specs.inner.Steps.{PutPair, countsOf, reportOf, lineRoom};
+
+// The numbers of the first line.
+pub struct Counts {
+    pub cameras: usize,
+    pub points: usize,
+    pub bearings: usize,
+    pub directions: usize,
+}
+
+// The numbers of the line of the report.
+pub struct Report {
+    pub anchor: usize,
+    pub route: usize,
+    pub rounds: usize,
+}
 
 // A byte. Each `put_` writes from place `at` on, and answers the place after what it wrote.
 fn put_byte(out: &mut [u8], at: usize, x: u8) -> usize
@@ -86,6 +102,25 @@ fn put_named(out: &mut [u8], at: usize, label: &[u8], x: usize) -> usize
     put_decimal(out, next, x)
 }
 
+// Two labels, each with a number.
+fn put_pair(out: &mut [u8], at: usize, one: &[u8], x: usize, two: &[u8], y: usize) -> usize
+    requires { ⌜ at + (length (now one) + 20 + (length (now two) + 20)) ≤ length (now out) ⌝ }
+    ensures { λ r. ⌜ PutPair (now (one .entry)) x (now (two .entry)) y (now (out .entry)) (now (out .exit)) at r ⌝ }
+{
+    let next = put_named(out, at, one, x);
+    put_named(out, next, two, y)
+}
+
+// The bits of x, y and z.
+fn put_coordinates(out: &mut [u8], at: usize, v: Vec3) -> usize
+    requires { ⌜ at + 51 ≤ length (now out) ⌝ }
+    ensures { λ r. ⌜ Put (now (out .entry)) (now (out .exit)) at (coordinates v) 51 r ⌝ }
+{
+    let next = put_spaced(out, at, v.x);
+    let next = put_spaced(out, next, v.y);
+    put_spaced(out, next, v.z)
+}
+
 // The line of the i-th camera or point.
 fn put_vector_line(out: &mut [u8], at: usize, tag: u8, i: usize, v: Vec3) -> usize
     requires { ⌜ at + 74 ≤ length (now out) ⌝ }
@@ -93,16 +128,14 @@ fn put_vector_line(out: &mut [u8], at: usize, tag: u8, i: usize, v: Vec3) -> usi
 {
     let label = [tag, b' '];
     let next = put_named(out, at, &label, i);
-    let next = put_spaced(out, next, v.x);
-    let next = put_spaced(out, next, v.y);
-    let next = put_spaced(out, next, v.z);
+    let next = put_coordinates(out, next, v);
     put_byte(out, next, b'\n')
 }
 
 // The lines of the cameras or points whose numbers are s.
 fn put_vectors(out: &mut [u8], at: usize, tag: u8, s: &[f64]) -> usize
-    requires { ⌜ at + 74 * (length (now s) / 3) ≤ length (now out) ⌝ }
-    ensures { λ r. ⌜ Put (now (out .entry)) (now (out .exit)) at (vectorLines tag (vectorsOf (now (s .entry)))) (74 * (length (now (s .entry)) / 3)) r ⌝ }
+    requires { ⌜ at + lineRoom (now s) ≤ length (now out) ⌝ }
+    ensures { λ r. ⌜ Put (now (out .entry)) (now (out .exit)) at (vectorLines tag (vectorsOf (now (s .entry)))) (lineRoom (now (s .entry))) r ⌝ }
 {
     let n = s.len() / 3;
     let mut next = at;
@@ -115,14 +148,26 @@ fn put_vectors(out: &mut [u8], at: usize, tag: u8, s: &[f64]) -> usize
 }
 
 // The line of the counts.
-fn put_counts(out: &mut [u8], at: usize, n: usize, m: usize, b: usize, e: usize) -> usize
+fn put_counts(out: &mut [u8], at: usize, counts: Counts) -> usize
     requires { ⌜ at + 119 ≤ length (now out) ⌝ }
-    ensures { λ r. ⌜ Put (now (out .entry)) (now (out .exit)) at (countsLine n m b e) 119 r ⌝ }
+    ensures { λ r. ⌜ Put (now (out .entry)) (now (out .exit)) at (countsOf counts) 119 r ⌝ }
 {
-    let next = put_named(out, at, b"cameras ", n);
-    let next = put_named(out, next, b" points ", m);
-    let next = put_named(out, next, b" bearings ", b);
-    let next = put_named(out, next, b" directions ", e);
+    let next = put_pair(
+        out,
+        at,
+        b"cameras ",
+        counts.cameras,
+        b" points ",
+        counts.points,
+    );
+    let next = put_pair(
+        out,
+        next,
+        b" bearings ",
+        counts.bearings,
+        b" directions ",
+        counts.directions,
+    );
     put_byte(out, next, b'\n')
 }
 
@@ -136,35 +181,49 @@ fn put_parts(out: &mut [u8], at: usize, parts: usize) -> usize
 }
 
 // The line of the report.
-fn put_report(out: &mut [u8], at: usize, anchor: usize, route: usize, rounds: usize) -> usize
+fn put_report(out: &mut [u8], at: usize, report: Report) -> usize
     requires { ⌜ at + 83 ≤ length (now out) ⌝ }
-    ensures { λ r. ⌜ Put (now (out .entry)) (now (out .exit)) at (reportLine anchor route rounds) 83 r ⌝ }
+    ensures { λ r. ⌜ Put (now (out .entry)) (now (out .exit)) at (reportOf report) 83 r ⌝ }
 {
-    let next = put_named(out, at, b"anchor ", anchor);
-    let next = put_named(out, next, b" route ", route);
-    let next = put_named(out, next, b" rounds ", rounds);
+    let next = put_pair(out, at, b"anchor ", report.anchor, b" route ", report.route);
+    let next = put_named(out, next, b" rounds ", report.rounds);
     put_byte(out, next, b'\n')
 }
 
-// The three lines above those of the vectors.
-fn put_head(
-    out: &mut [u8],
-    at: usize,
-    n: usize,
-    m: usize,
-    b: usize,
-    e: usize,
-    parts: usize,
-    anchor: usize,
-    route: usize,
-    rounds: usize,
-) -> usize
+// The lines above those of the vectors.
+fn put_head(out: &mut [u8], at: usize, counts: Counts, parts: usize, report: Report) -> usize
     requires { ⌜ at + 229 ≤ length (now out) ⌝ }
-    ensures { λ r. ⌜ Put (now (out .entry)) (now (out .exit)) at (countsLine n m b e ++ partsLine parts ++ reportLine anchor route rounds) 229 r ⌝ }
+    ensures { λ r. ⌜ Put (now (out .entry)) (now (out .exit)) at (countsOf counts ++ partsLine parts ++ reportOf report) 229 r ⌝ }
 {
-    let next = put_counts(out, at, n, m, b, e);
+    let next = put_counts(out, at, counts);
     let next = put_parts(out, next, parts);
-    put_report(out, next, anchor, route, rounds)
+    put_report(out, next, report)
+}
+
+// All lines of a solve that is not refused, where there is room for them.
+fn put_lines(
+    counts: Counts,
+    parts: usize,
+    report: Report,
+    cameras: &[f64],
+    points: &[f64],
+    out: &mut [u8],
+) -> usize
+    requires { ⌜ room (length (now cameras) / 3 + length (now points) / 3) ≤ length (now out) ⌝ }
+    ensures { λ r. ⌜ PutPlaced counts parts report (now (cameras .entry)) (now (points .entry)) (now (out .entry)) (now (out .exit)) r ⌝ }
+{
+    let next = put_head(out, 0, counts, parts, report);
+    let next = put_vectors(out, next, b'c', cameras);
+    put_vectors(out, next, b'p', points)
+}
+
+// The line of a refusal, where there is room for it.
+fn put_refusal(number: usize, place: usize, out: &mut [u8]) -> usize
+    requires { ⌜ room 0 ≤ length (now out) ⌝ }
+    ensures { λ r. ⌜ PutIfRoom (now (out .entry)) (now (out .exit)) 0 (refusedText number place) r ⌝ }
+{
+    let next = put_pair(out, 0, b"refused ", number, b" place ", place);
+    put_byte(out, next, b'\n')
 }
 
 // Whether the buffer has room for the lines of so many vectors and those before them.
@@ -177,36 +236,28 @@ fn has_room(vectors: usize, out: &[u8]) -> bool
 // What a solve that is not refused prints, at the front of `out`. `cameras` and `points` hold three numbers for each.
 // The answer is the number of bytes written: 0, and `out` stays as it was, where it is shorter than 256 bytes and 74 for each vector.
 pub fn put_placed(
-    n: usize,
-    m: usize,
-    b: usize,
-    e: usize,
+    counts: Counts,
     parts: usize,
-    anchor: usize,
-    route: usize,
-    rounds: usize,
+    report: Report,
     cameras: &[f64],
     points: &[f64],
     out: &mut [u8],
 ) -> usize
-    ensures { λ r. ⌜ Put (now (out .entry)) (now (out .exit)) 0 (fitting (length (now (cameras .entry)) / 3 + length (now (points .entry)) / 3) (now (out .entry)) (placedText n m b e parts anchor route rounds (vectorsOf (now (cameras .entry))) (vectorsOf (now (points .entry))))) (length (now (out .entry))) r ⌝ }
+    ensures { λ r. ⌜ PutPlaced counts parts report (now (cameras .entry)) (now (points .entry)) (now (out .entry)) (now (out .exit)) r ⌝ }
 {
-    if !has_room(cameras.len() / 3 + points.len() / 3, out) {
-        return 0;
+    if has_room(cameras.len() / 3 + points.len() / 3, out) {
+        return put_lines(counts, parts, report, cameras, points, out);
     }
-    let next = put_head(out, 0, n, m, b, e, parts, anchor, route, rounds);
-    let next = put_vectors(out, next, b'c', cameras);
-    put_vectors(out, next, b'p', points)
+    0
 }
 
-// What a refusal prints, at the front of `out`. The answer is the number of bytes written: 0, and `out` stays as it was, where it is shorter than 256 bytes.
+// What a refusal prints, at the front of `out`.
+// The answer is the number of bytes written: 0, and `out` stays as it was, where it is shorter than 256 bytes.
 pub fn put_refused(number: usize, place: usize, out: &mut [u8]) -> usize
-    ensures { λ r. ⌜ Put (now (out .entry)) (now (out .exit)) 0 (fitting 0 (now (out .entry)) (refusedText number place)) (length (now (out .entry))) r ⌝ }
+    ensures { λ r. ⌜ PutIfRoom (now (out .entry)) (now (out .exit)) 0 (refusedText number place) r ⌝ }
 {
-    if !has_room(0, out) {
-        return 0;
+    if has_room(0, out) {
+        return put_refusal(number, place, out);
     }
-    let next = put_named(out, 0, b"refused ", number);
-    let next = put_named(out, next, b" place ", place);
-    put_byte(out, next, b'\n')
+    0
 }

@@ -1,5 +1,5 @@
 -- `put_decimal` calls itself with the quotient by 10: the measure is x. Assumes nothing.
-use Rattle.text.proofs.Lines.{decimal-first, decimal-rest, decimal-last}
+use Rattle.text.proofs.Lines.{decimal-first, decimal-room, decimal-last}
 use native.Mathlib.Omega.{arith}
 use Prim.Native.Nat.{ℕ, _<_}
 use borrow.Fn.Kinds.{In}
@@ -32,9 +32,9 @@ pub +put-decimal-spec : {M : Type 1} → statement M
     (λ c κs. omega arith)
     (λ c κs. omega arith)
     (λ c. omega arith)
-    (λ c. decimal-first _ _ _ _ _ _ (omega arith) (c .before .before .before .digit-byte .ensures) (c .before .before .put-byte .ensures))
+    (λ c. search decimal-first)
     (λ c κs. (omega arith, omega arith))
     (λ c κs. omega arith)
-    (λ c κs. omega (arith, c .before .before .before .before .put-decimal .ensures .written .next, decimal-rest (c .before .before .before .before .before .before .before .before .args .x) (omega arith) (omega arith)))
+    (λ c κs. search decimal-room)
     (λ c. omega arith)
-    (λ c. decimal-last _ _ _ _ _ _ _ _ (omega arith) (omega arith) (c .before .before .before .before .before .before .before .put-decimal .ensures) (c .before .before .before .digit-byte2 .ensures) (c .before .before .put-byte2 .ensures)))
+    (λ c. search decimal-last))

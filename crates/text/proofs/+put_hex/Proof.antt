@@ -29,10 +29,10 @@ pub +put-hex-spec : {M : Type 1} → statement M
     lts.spec (below t, put-hex.Post, digit-byte-reads.Asked, digit-byte-reads.Learnt, put-byte-reads.Asked, put-byte-reads.Learnt)
     (given t)
     put-hex.Post
-    (λ c. hex-none _ _ _ _ (c .if1 .taken))
+    (λ c. search hex-none)
     (λ c. omega arith)
     (λ c κs. (omega arith, omega arith))
     (λ c κs. omega arith)
     (λ c κs. omega arith)
     (λ c. omega arith)
-    (λ c. hex-last _ _ _ _ _ _ _ _ _ (c .before .before .before .before .before .before .before .before .before .if1 .left) (c .before .before .before .before .before .before .before .put-hex .ensures) (c .before .before .before .digit-byte .ensures) (c .before .before .put-byte .ensures)))
+    (λ c. search hex-last))

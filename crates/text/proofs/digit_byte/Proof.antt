@@ -4,26 +4,14 @@ use borrow.Author.Needs.{needs}
 use Rattle.text.proofs.digit_byte.Statement.{statement}
 use Rattle.text.proofs.digit_byte.Tie as tie
 
-cast-result : tie.Need-cast-result
-cast-result c = search needs
-
-add-result : tie.Need-add-result
-add-result c = search needs
-
-returns : tie.Need-returns
-unfolding digit
-returns c = rw (lt-ltb _ _ (c .if1 .taken))
-
-cast-result-2 : tie.Need-cast-result-2
-cast-result-2 c = search needs
-
-add-result-2 : tie.Need-add-result-2
-add-result-2 c = search needs
-
-returns-2 : tie.Need-returns-2
-unfolding digit
-returns-2 c = rw (le-ltb _ _ (c .if1 .left))
-
 pub digit-byte-spec : {M : Type 1} → statement M
+unfolding digit
 digit-byte-spec =
-    tie.close (tie.spec cast-result add-result returns cast-result-2 add-result-2 returns-2)
+    tie.close
+    (tie.spec
+    (λ c. search needs)
+    (λ c. search needs)
+    (λ c. rw (lt-ltb _ _ (c .if1 .taken)))
+    (λ c. search needs)
+    (λ c. search needs)
+    (λ c. rw (le-ltb _ _ (c .if1 .left))))
