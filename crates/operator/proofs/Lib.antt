@@ -1,7 +1,5 @@
 pub mod OperatorLaws
-pub mod Standing
-pub mod Outside
-pub mod Fills
+pub mod Buffered
 pub mod Passes
 pub mod Sights
 pub mod Operands

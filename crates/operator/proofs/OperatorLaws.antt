@@ -12,15 +12,15 @@ use lib.Seq.{set-out, getD-set-same, getD-set-other}
 use lib.Ieee.{Float, binary64, lt}
 use lib.Ieee.Scale.{finite}
 use Rattle.field.specs.declared.Vec3.{Vec3}
-use Rattle.field.specs.Vec.{Axis, on, origin, plus, minus, scale}
+use Rattle.field.specs.Vec.{Axis, on, origin, plus, minus, scale, at}
 use Rattle.field.proofs.Vectors.{on-plus, on-minus, on-scale}
 use Rattle.field.proofs.Counting.{length-field, getD-field, upto-ext, upto-invariant}
 use Rattle.double.proofs.Finite.{finite-add, finite-sub, finite-mul}
-use Rattle.network.specs.Network.{Network, rows}
-use Rattle.system.specs.System.{tiny}
-use Rattle.operator.specs.Operator.{Change, Links, Weights, at, ridge, changed, gains, loses, times, meanStep, ridged, bearingStep, listStep, spanOf, spanPass, pointStep, directionStep, linksOf, reduced, reducedBy, weightsOf}
-use Rattle.operator.specs.Posed.{Linked}
-use Rattle.operator.specs.declared.Span.{Span}
+use Rattle.network.specs.Network.{rows, rowAt, Links, spanOf, linksOf}
+use Rattle.system.specs.System.{tiny, Weights, ridge, weightsOf}
+use Rattle.operator.specs.Operator.{Change, changed, ridgeAt, gains, loses, times, meanStep, ridged, bearingStep, listStep, spanPass, pointStep, directionStep, reduced, reducedBy}
+use Rattle.network.specs.declared.Span.{Span}
+use Rattle.network.specs.inner.Sound.{LinksSound}
 
 -- ---- what each gain and each loss keeps, the operator keeps
 
@@ -47,7 +47,7 @@ module _ (w : Weights) (a : ℕ) (x : List Vec3) (R : List Vec3 → List Vec3 �
 module _ (L : Links) (w : Weights) (a : ℕ) (x : List Vec3) (R : List Vec3 → List Vec3 → Type 0) (K : Stable a R) where
   span-pass : (listed : List ℕ) (p : Span) (t : Float) (y : List Vec3) → R (spanPass (L .ends) listed a p t w x y) y
   unfolding spanPass
-  span-pass listed p t y = steps w a x R K (listStep (L .ends) listed (p .first) a _) (λ i. bearing-step w a x R K (L .ends) _ (getD listed (p .first + i) 0)) (p .size) y
+  span-pass listed p t y = steps w a x R K (listStep (L .ends) listed p a _) (λ i. bearing-step w a x R K (L .ends) _ (rowAt listed p i)) (p .size) y
 
   point-step : (p : ℕ) (y : List Vec3) → R (pointStep L a p w x y) y
   unfolding pointStep
@@ -117,7 +117,7 @@ module _ (L : Links) (w : Weights) (a : ℕ) (x : List Vec3) where
   unfolding ridged
   by-anchor h =
       reduced-keeps L w a x _ (view-kept a (λ y. at y a) (λ op. anchor-unchanged op a))
-      ∙ getD-field _ (λ i. cond (eqb i a) origin (scale (at x i) ridge)) a origin h
+      ∙ getD-field _ (λ i. ridgeAt a i (at x i)) a origin h
       ∙ rw (eq-eqb a a refl)
 
 -- ---- an entry that is not finite
@@ -172,35 +172,23 @@ finite-kept k i a = record {
 ridged-finite : (n a : ℕ) (x : List Vec3) (k : Axis) (i : ℕ) → i < n → (i ≡ a → ⊥) → FiniteAt k i (ridged n a x) → FiniteAt k i x
 unfolding ridged
 ridged-finite n a x k i l d e =
-    let h = getD-field n (λ j. cond (eqb j a) origin (scale (at x j) ridge)) i origin l in
+    let h = getD-field n (λ j. ridgeAt a j (at x j)) i origin l in
     firm-scale k (at x i) ridge (sym (ap finite (ap (on k) (h ∙ rw (ne-eqb i a d)))) ∙ e)
 
 pub by-finite : (L : Links) (w : Weights) (a : ℕ) (x : List Vec3) (k : Axis) (i : ℕ) → i < L .shape .cameras → (i ≡ a → ⊥) → finite (on k (at (reducedBy L w a x) i)) ≡ true → finite (on k (at x i)) ≡ true
 by-finite L w a x k i l d e = ridged-finite (L .shape .cameras) a x k i l d (reduced-keeps L w a x _ (finite-kept k i a) e)
 
--- ---- the network's own
-
-module _ (net : Network) (a : ℕ) (x : List Vec3) where
-  pub reduced-length : length (reduced net a x) ≡ net .graph .shape .cameras
-  reduced-length = by-length (linksOf net) (weightsOf net) a x
-
-  pub reduced-anchor : a < net .graph .shape .cameras → at (reduced net a x) a ≡ origin
-  reduced-anchor = by-anchor (linksOf net) (weightsOf net) a x
-
-  pub reduced-finite : (k : Axis) (i : ℕ) → i < net .graph .shape .cameras → (i ≡ a → ⊥) → finite (on k (at (reduced net a x) i)) ≡ true → finite (on k (at x i)) ≡ true
-  reduced-finite = by-finite (linksOf net) (weightsOf net) a x
-
 -- ---- two weights that agree at the rows and points in range
 
-module _ (L : Links) (S : Linked L) (a : ℕ) (v w : Weights) (row : (r : ℕ) → r < rows (L .shape) → v .row r ≡ w .row r) (point : (p : ℕ) → p < L .shape .points → v .point p ≡ w .point p) (x : List Vec3) where
-  listed-same : (p : ℕ) → p < L .shape .points → (i : ℕ) → i < spanOf (L .offsets) p .size → let r = getD (L .listed) (spanOf (L .offsets) p .first + i) 0 in v .row r ≡ w .row r
+module _ (L : Links) (S : LinksSound L) (a : ℕ) (v w : Weights) (row : (r : ℕ) → r < rows (L .shape) → v .row r ≡ w .row r) (point : (p : ℕ) → p < L .shape .points → v .point p ≡ w .point p) (x : List Vec3) where
+  listed-same : (p : ℕ) → p < L .shape .points → (i : ℕ) → i < spanOf (L .offsets) p .size → let r = rowAt (L .listed) (spanOf (L .offsets) p) i in v .row r ≡ w .row r
   listed-same p h i k = row _ (omega (arith, S .listed .bearing (getD (L .offsets) p 0 + i) (omega (arith, S .offsets .within (p + 1) (omega arith)))))
 
   span-same : (p : ℕ) → p < L .shape .points → (t : Float) (y : List Vec3) → spanPass (L .ends) (L .listed) a (spanOf (L .offsets) p) t v x y ≡ spanPass (L .ends) (L .listed) a (spanOf (L .offsets) p) t w x y
   unfolding spanPass times bearingStep
   span-same p h t y =
-      let k = spanOf (L .offsets) p .first in
-      let n = spanOf (L .offsets) p .size in
+      let k = spanOf (L .offsets) p in
+      let n = k .size in
       rw (upto-ext (meanStep (L .ends) (L .listed) k v x) (meanStep (L .ends) (L .listed) k w x) n origin (λ i z b. rw (listed-same p h i b)))
       (upto-ext (λ i. listStep (L .ends) (L .listed) k a _ i v x) (λ i. listStep (L .ends) (L .listed) k a _ i w x) n y (λ i z b. rw (listed-same p h i b)))
 

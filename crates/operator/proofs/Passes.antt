@@ -8,28 +8,51 @@ use native.Mathlib.Numerals.{add-one}
 use native.Mathlib.Omega.{arith}
 use borrow.Author.Tests.{eq-eqb, ne-eqb}
 use lib.ListN.{drop, getD, length}
-use lib.Ieee.{Float, lt, nan}
+use Rattle.field.proofs.Fills.{Fill, fill, seen-prior}
+use lib.Ieee.{Float, lt}
 use Rattle.field.proofs.Buffers.{at-load, change-field, drop-store, length-load, store-load, through, vector-lawful}
 use Rattle.field.proofs.Counting.{length-field, upto-suc, upto-zero}
 use Rattle.field.specs.Buffer.{get, load, put, store, vector}
 use Rattle.field.specs.Count.{upto}
-use Rattle.field.specs.Vec.{minus, origin, over, plus, scale}
+use Rattle.field.specs.Vec.{minus, origin, over, plus, scale, at}
 use Rattle.field.specs.declared.Vec3.{Vec3}
-use Rattle.network.specs.Network.{firstEnd, rows, secondEnd}
+use Rattle.network.specs.Network.{firstEnd, rows, secondEnd, Links, links, rowAt, spanOf}
 use Rattle.network.specs.declared.Shape.{Shape}
 use Rattle.system.specs.System.{tiny}
 use Rattle.system.specs.Work.{effectiveAt, weightsAt}
 use Rattle.operator.proofs.OperatorLaws.{Sized, changed-length, sized-bearing, sized-direction, sized-point, sized-times}
-use Rattle.operator.proofs.Standing.{weights-kept}
-use Rattle.operator.specs.Operator.{Change, Links, at, bearingStep, changed, directionStep, links, listStep, meanStep, pointStep, reducedBy, ridged, spanOf, spanPass, times}
-use Rattle.operator.specs.Posed.{EndsLinked, Laid, applied, weightsIn}
-use Rattle.operator.specs.declared.Span.{Span}
+use Rattle.operator.proofs.Buffered.{weights-kept}
+use Rattle.operator.specs.Operator.{Change, bearingStep, changed, directionStep, listStep, meanStep, pointStep, reducedBy, ridgeAt, ridged, spanPass, times}
+use Rattle.operator.specs.inner.Applied.{FieldsIn, applied}
+use Rattle.network.specs.declared.Span.{Span}
+use Rattle.network.specs.inner.Sound.{EndsSound}
+use Rattle.system.specs.inner.Formed.{weightsIn}
 
 -- ---- the ridge
 
 pub length-ridged : (n a : ℕ) (x : List Vec3) → length (ridged n a x) ≡ n
 unfolding ridged
 length-ridged n a x = length-field n _
+
+ridged-fill : (a : ℕ) (x : List Vec3) → Fill (λ i. ridged i a x) (λ i. ridgeAt a i (at x i))
+unfolding ridged
+ridged-fill a x = fill _
+
+-- a pass over the cameras: where it begins, one camera more, where it ends
+module _ (n a from into : ℕ) (l : List Float) where
+  pub ridge-none : l ≡ store vector l into (ridged 0 a (load vector l from n))
+  ridge-none = ridged-fill a _ .none l into
+
+  pub ridge-more : (i : ℕ) (m w : List Float) → from + 3 * n ≤ into → i < n →
+      m ≡ store vector l into (ridged i a (load vector l from n)) →
+      w ≡ put vector m (into + 3 * i) (ridgeAt a i (get vector m (from + 3 * i))) →
+      w ≡ store vector l into (ridged (i + 1) a (load vector l from n))
+  ridge-more i m w b h e f =
+      let q : get vector m (from + 3 * i) ≡ at (load vector l from n) i = seen-prior l m into _ n i e h from b in
+      f ∙ ridged-fill a (load vector l from n) .more l into i m _ e (ap (ridgeAt a i) q)
+
+  pub ridge-ended : (i : ℕ) (w : List Float) → w ≡ store vector l into (ridged i a (load vector l from n)) → n ≤ i → i ≤ n → w ≡ store vector l into (ridged n a (load vector l from n))
+  ridge-ended i w e b c = let q : i ≡ n = omega arith in rw q at e
 
 -- ---- one camera's vector changed
 
@@ -51,12 +74,12 @@ times-suc : (f : ℕ → Change) (i : ℕ) → times f (suc i) ≡ after (f i) (
 unfolding times
 times-suc f i = λ j w x y. upto-suc (λ k. f k w x) i y j
 
-module _ (s : Shape) (from into : ℕ) (l : List Float) (O : Laid s from into (length l)) where
+module _ (s : Shape) (from into : ℕ) (l : List Float) (O : FieldsIn s from into (length l)) where
   fits : into + 3 * s .cameras ≤ length l
   fits = omega (arith, O .ordered .last, O .ordered .room)
 
   weights-after : (f : List Vec3) (m : List Float) → m ≡ store vector l into f → length f ≡ s .cameras → weightsIn s m ≡ weightsIn s l
-  weights-after f m e h = weights-kept s l m (ap (drop (weightsAt (s .cameras))) e ∙ drop-store vector vector-lawful (weightsAt (s .cameras)) l into f (omega (arith, O .ordered .last)))
+  weights-after f m e h = weights-kept s l m (ap (drop (weightsAt s)) e ∙ drop-store vector vector-lawful (weightsAt s) l into f (omega (arith, O .ordered .last)))
 
   pub both : (F G : Change) (m w : List Float) → Sized (s .cameras) F → Sized (s .cameras) G → m ≡ applied s from into F l → w ≡ applied s from into G m → w ≡ applied s from into (after G F) l
   unfolding applied
@@ -79,24 +102,25 @@ module _ (s : Shape) (from into : ℕ) (l : List Float) (O : Laid s from into (l
 
 -- ---- the rows
 
-module _ (s : Shape) (ends : List ℕ) (E : EndsLinked s ends) (a from into : ℕ) (l : List Float) where
+module _ (s : Shape) (ends : List ℕ) (E : EndsSound s ends) (a from into : ℕ) (l : List Float) where
   -- what a bearing does to its camera
-  pub bearing-done : (r c at : ℕ) (u x v : Vec3) (w : List Float) →
+  pub bearing-done : (r c : ℕ) (e : Float) (u x d v : Vec3) (w : List Float) →
       r < rows s →
       c ≡ firstEnd ends r →
       x ≡ get vector l (from + 3 * c) →
-      at ≡ effectiveAt (s .cameras) (s .points) →
-      v ≡ scale (minus x u) (getD l (at + r) nan) →
+      d ≡ minus x u →
+      e ≡ weightsIn s l .row r →
+      v ≡ scale d e →
       w ≡ store vector l into (changed plus a c v (load vector l into (s .cameras))) →
       w ≡ applied s from into (bearingStep ends a u r) l
   unfolding applied bearingStep
-  bearing-done r c at u x v w h ec ex et ev f =
+  bearing-done r c e u x d v w h ec ex ed ee ev f =
       let k : getD (load vector l from (s .cameras)) (firstEnd ends r) origin ≡ x = at-load vector l from (s .cameras) _ origin (E .camera r h) ∙ rw (← ec, ← ex) in
-      rw (k, ← et, ← ev, ← ec) f
+      rw (k, ← ee, ← ed, ← ev, ← ec) f
 
   -- what a direction does to its source and its target
   pub direction-done : (d i j : ℕ) (v : Vec3) (m w : List Float) → let r = s .bearings + d in
-      Laid s from into (length l) →
+      FieldsIn s from into (length l) →
       d < s .directions →
       i ≡ firstEnd ends r →
       j ≡ secondEnd ends r →
@@ -120,27 +144,37 @@ module _ (s : Shape) (ends : List ℕ) (E : EndsLinked s ends) (a from into : �
 
 -- ---- points
 
-module _ (s : Shape) (ends listed : List ℕ) (E : EndsLinked s ends) (from : ℕ) (l : List Float) where
-  -- what a bearing adds to its point's sum
-  pub sum-more : (k i r c at : ℕ) (t t' x v : Vec3) →
-      r < s .bearings →
-      r ≡ getD listed (k + i) 0 →
-      c ≡ firstEnd ends r →
-      x ≡ get vector l (from + 3 * c) →
-      at ≡ effectiveAt (s .cameras) (s .points) →
-      v ≡ scale x (getD l (at + r) nan) →
-      t ≡ upto (meanStep ends listed k (weightsIn s l) (load vector l from (s .cameras))) i origin →
-      t' ≡ plus t v →
-      t' ≡ upto (meanStep ends listed k (weightsIn s l) (load vector l from (s .cameras))) (i + 1) origin
-  sum-more k i r c at t t' x v h er ec ex ea ev et g =
-      let q : getD (load vector l from (s .cameras)) (firstEnd ends r) origin ≡ x = at-load vector l from (s .cameras) _ origin (E .camera r (omega arith)) ∙ rw (← ec, ← ex) in
-      rw (add-one, upto-suc, ← et, ← er, q, ← ea, ← ev) g
+-- what is read of a bearing for its point's sum
+pub weighted-is : (s : Shape) (ends : List ℕ) (from : ℕ) (l : List Float) (r c : ℕ) (e : Float) (x v : Vec3) → EndsSound s ends → r < s .bearings →
+    c ≡ firstEnd ends r → x ≡ get vector l (from + 3 * c) → e ≡ weightsIn s l .row r → v ≡ scale x e →
+    v ≡ scale (at (load vector l from (s .cameras)) (firstEnd ends r)) (weightsIn s l .row r)
+weighted-is s ends from l r c e x v E h ec ex ee ev =
+    let q : at (load vector l from (s .cameras)) (firstEnd ends r) ≡ x = at-load vector l from (s .cameras) _ origin (E .camera r (omega arith)) ∙ rw (← ec, ← ex) in
+    rw (q, ← ee) ev
+
+-- (target - source) × its effective weight
+pub between-is : (x y x' y' d v : Vec3) (e e' : Float) → x ≡ x' → y ≡ y' → d ≡ minus x y → e ≡ e' → v ≡ scale d e → v ≡ scale (minus x' y') e'
+between-is x y x' y' d v e e' ex ey ed ee ev = rw (← ex, ← ey, ← ed, ← ee) ev
+
+-- one bearing more in the sum
+module _ (s : Shape) (ends listed : List ℕ) (from : ℕ) (l : List Float) (k : Span) where
+  abbrev sumOf : ℕ → Vec3
+  sumOf i = upto (meanStep ends listed k (weightsIn s l) (load vector l from (s .cameras))) i origin
+
+  pub sum-none : (t : Vec3) → t ≡ origin → t ≡ sumOf 0
+  sum-none t e = e ∙ sym (upto-zero _ origin)
+
+  pub sum-more : (i r : ℕ) (t t' v : Vec3) → r ≡ rowAt listed k i → v ≡ scale (at (load vector l from (s .cameras)) (firstEnd ends r)) (weightsIn s l .row r) → t ≡ sumOf i → t' ≡ plus t v → t' ≡ sumOf (i + 1)
+  sum-more i r t t' v er ev et g = rw (add-one, upto-suc, ← et, ← er, ← ev) g
+
+  pub sum-ended : (i : ℕ) (t : Vec3) → t ≡ sumOf i → k .size ≤ i → i ≤ k .size → t ≡ sumOf (k .size)
+  sum-ended i t e a b = let q : i ≡ k .size = omega arith in rw q at e
 
 -- the bearings of a point with the mean of its cameras, which is their sum over the point's weight
 pub mean-taken : (s : Shape) (ends listed : List ℕ) (from into a : ℕ) (l m : List Float) (p : Span) (v u : Vec3) (t : Float) →
-    v ≡ upto (meanStep ends listed (p .first) (weightsIn s l) (load vector l from (s .cameras))) (p .size) origin →
+    v ≡ upto (meanStep ends listed p (weightsIn s l) (load vector l from (s .cameras))) (p .size) origin →
     u ≡ over v t →
-    m ≡ applied s from into (times (listStep ends listed (p .first) a u) (p .size)) l →
+    m ≡ applied s from into (times (listStep ends listed p a u) (p .size)) l →
     m ≡ applied s from into (spanPass ends listed a p t) l
 unfolding applied spanPass
 mean-taken s ends listed from into a l m p v u t e f g = rw (← e, ← f) g
@@ -152,25 +186,22 @@ pub rows-are : (s : Shape) (ends listed : List ℕ) (from into a : ℕ) (l w : L
 rows-are s ends listed from into a l w p t i e f = f ∙ ap (λ k. applied s from into (spanPass ends listed a (record { first = p .first; size = k }) t) l) (sym e)
 
 -- point p: skipped, or with the mean of its cameras
-module _ (s : Shape) (ends offsets listed : List ℕ) (from into a p : ℕ) (l : List Float) (at : ℕ) (ea : at ≡ weightsAt (s .cameras)) where
-  pub point-skipped : Laid s from into (length l) → lt (getD l (at + p) nan) tiny ≡ true → l ≡ applied s from into (pointStep (links s ends offsets listed) a p) l
+module _ (s : Shape) (ends offsets listed : List ℕ) (from into a p : ℕ) (l : List Float) (t : Float) (et : t ≡ weightsIn s l .point p) where
+  pub point-skipped : FieldsIn s from into (length l) → lt t tiny ≡ true → l ≡ applied s from into (pointStep (links s ends offsets listed) a p) l
   unfolding applied pointStep
-  point-skipped O b = let k : lt (getD l (weightsAt (s .cameras) + p) nan) tiny ≡ true = rw (← ea) b in rw k (sym (store-load vector vector-lawful l into _ (fits s from into l O)))
+  point-skipped O b = rw (← et, b) (sym (store-load vector vector-lawful l into _ (fits s from into l O)))
 
-  pub point-met : (q : Span) (w : List Float) → q ≡ spanOf offsets p → lt (getD l (at + p) nan) tiny ≡ false → w ≡ applied s from into (spanPass ends listed a q (getD l (at + p) nan)) l → w ≡ applied s from into (pointStep (links s ends offsets listed) a p) l
+  pub point-met : (q : Span) (w : List Float) → q ≡ spanOf offsets p → lt t tiny ≡ false → w ≡ applied s from into (spanPass ends listed a q t) l → w ≡ applied s from into (pointStep (links s ends offsets listed) a p) l
   unfolding applied pointStep
-  point-met q w e b g =
-      let k : lt (getD l (weightsAt (s .cameras) + p) nan) tiny ≡ false = rw (← ea) b in
-      let h : getD l (at + p) nan ≡ getD l (weightsAt (s .cameras) + p) nan = rw ea in
-      rw (k, ← e, ← h) g
+  point-met q w e b g = rw (← et, b, ← e) g
 
 -- ---- the loops: where each begins, one turn more, where it ends
 
 pub ended : (s : Shape) (from into : ℕ) (l w : List Float) (f : ℕ → Change) (k n : ℕ) → w ≡ applied s from into (times f k) l → n ≤ k → k ≤ n → w ≡ applied s from into (times f n) l
 ended s from into l w f k n e a b = let q : k ≡ n = omega arith in rw q at e
 
-module _ (s : Shape) (from into : ℕ) (l : List Float) (O : Laid s from into (length l)) (i : ℕ) (m w : List Float) where
-  pub list-more : (ends listed : List ℕ) (k a : ℕ) (u : Vec3) (r : ℕ) → r ≡ getD listed (k + i) 0 → m ≡ applied s from into (times (listStep ends listed k a u) i) l → w ≡ applied s from into (bearingStep ends a u r) m → w ≡ applied s from into (times (listStep ends listed k a u) (i + 1)) l
+module _ (s : Shape) (from into : ℕ) (l : List Float) (O : FieldsIn s from into (length l)) (i : ℕ) (m w : List Float) where
+  pub list-more : (ends listed : List ℕ) (k : Span) (a : ℕ) (u : Vec3) (r : ℕ) → r ≡ rowAt listed k i → m ≡ applied s from into (times (listStep ends listed k a u) i) l → w ≡ applied s from into (bearingStep ends a u r) m → w ≡ applied s from into (times (listStep ends listed k a u) (i + 1)) l
   list-more ends listed k a u r h e g = more s from into l O _ (λ j. sized-bearing (s .cameras) a ends u _) i m w e (rw h at g)
 
   pub points-more : (L : Links) (a : ℕ) → m ≡ applied s from into (times (pointStep L a) i) l → w ≡ applied s from into (pointStep L a i) m → w ≡ applied s from into (times (pointStep L a) (i + 1)) l
@@ -179,16 +210,10 @@ module _ (s : Shape) (from into : ℕ) (l : List Float) (O : Laid s from into (l
   pub directions-more : (ends : List ℕ) (a : ℕ) → m ≡ applied s from into (times (directionStep (s .bearings) ends a) i) l → w ≡ applied s from into (directionStep (s .bearings) ends a i) m → w ≡ applied s from into (times (directionStep (s .bearings) ends a) (i + 1)) l
   directions-more ends a e g = more s from into l O _ (sized-direction (s .cameras) a (s .bearings) ends) i m w e g
 
-pub sum-none : (f : ℕ → Vec3 → Vec3) (t : Vec3) → t ≡ origin → t ≡ upto f 0 origin
-sum-none f t e = e ∙ sym (upto-zero f origin)
-
-pub sum-ended : (f : ℕ → Vec3 → Vec3) (t : Vec3) (k n : ℕ) → t ≡ upto f k origin → n ≤ k → k ≤ n → t ≡ upto f n origin
-sum-ended f t k n e a b = let q : k ≡ n = omega arith in rw q at e
-
 -- ---- the three passes one after another
 
 pub reduced-done : (L : Links) (a from into : ℕ) (l l1 l2 l3 : List Float) → let s = L .shape in
-    Laid s from into (length l) →
+    FieldsIn s from into (length l) →
     l1 ≡ store vector l into (ridged (s .cameras) a (load vector l from (s .cameras))) →
     l2 ≡ applied s from into (times (pointStep L a) (s .points)) l1 →
     l3 ≡ applied s from into (times (directionStep (s .bearings) (L .ends) a) (s .directions)) l2 →

@@ -16,8 +16,9 @@ use Rattle.network.specs.Network.{firstEnd}
 use Rattle.network.specs.declared.Shape.{Shape}
 use Rattle.operator.proofs.OperatorLaws.{changed-length}
 use Rattle.operator.specs.Operator.{bearingStep, gains, listStep, meanStep, spanPass, times}
-use Rattle.operator.specs.Posed.{Seen, applied, weightsIn}
+use Rattle.operator.specs.inner.Applied.{Seen, applied}
 use Rattle.operator.specs.declared.short.Sight.{Sight}
+use Rattle.system.specs.inner.Formed.{weightsIn}
 
 -- a sum with a sight's camera added by its weight, and a field whose camera gains by it
 abbrev added : Sight → Vec3 → Vec3
@@ -53,8 +54,8 @@ both-stored l m w into n F G hF hG e f fits =
 module _ (s : Shape) (ends listed : List ℕ) (l : List Float) (from k : ℕ) where
   -- v is the sum of their cameras, and F is what they do to a field where the anchor is a and the mean is u
   record Walked (i : ℕ) (v : Vec3) (F : ℕ → Vec3 → List Vec3 → List Vec3) : Type 0 where
-    sum : v ≡ upto (meanStep ends listed k (weightsIn s l) (load vector l from (s .cameras))) i origin
-    steps : (a : ℕ) (u : Vec3) (y : List Vec3) → F a u y ≡ times (listStep ends listed k a u) i (weightsIn s l) (load vector l from (s .cameras)) y
+    sum : v ≡ upto (meanStep ends listed (record { first = k; size = 0 }) (weightsIn s l) (load vector l from (s .cameras))) i origin
+    steps : (a : ℕ) (u : Vec3) (y : List Vec3) → F a u y ≡ times (listStep ends listed (record { first = k; size = 0 }) a u) i (weightsIn s l) (load vector l from (s .cameras)) y
 
   none : Walked 0 origin (λ a u y. y)
   unfolding upto times

@@ -1,2 +1,2 @@
 pub mod Operator
-pub mod Posed
+pub mod inner

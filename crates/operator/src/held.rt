@@ -5,8 +5,9 @@ use crate::apply_core;
 use network::Shape;
 ghost use mathlib.Core.Path.{_≡_};
 ghost use lib.ListN.{length};
-ghost use Rattle.operator.specs.Operator.{links};
-ghost use Rattle.operator.specs.Posed.{Linked, Laid, reducedIn};
+ghost use Rattle.network.specs.Network.{links};
+ghost use Rattle.network.specs.inner.Sound.{LinksSound};
+ghost use Rattle.operator.specs.inner.Applied.{FieldsIn, reducedIn};
 
 pub struct ReducedOperator<'a> {
     work: &'a mut [f64],
@@ -24,7 +25,7 @@ impl<'a> ReducedOperator<'a> {
         from: usize,
         into: usize,
     )
-        requires { ⌜ Linked (links s (now ends) (now offsets) (now listed)) × Laid s from into (length (now (self .work))) ⌝ }
+        requires { ⌜ LinksSound (links s (now ends) (now offsets) (now listed)) × FieldsIn s from into (length (now (self .work))) ⌝ }
         ensures { λ _. ⌜ now (self .exit .0) ≡ reducedIn (links s (now (ends .entry)) (now (offsets .entry)) (now (listed .entry))) anchor from into (now (self .entry .work)) ⌝ }
     {
         apply_core(self.work, s, ends, offsets, listed, anchor, from, into)
@@ -42,7 +43,7 @@ pub fn apply(
     from: usize,
     into: usize,
 )
-    requires { ⌜ Linked (links s (now ends) (now offsets) (now listed)) × Laid s from into (length (now work)) ⌝ }
+    requires { ⌜ LinksSound (links s (now ends) (now offsets) (now listed)) × FieldsIn s from into (length (now work)) ⌝ }
     ensures { λ _. ⌜ now (work .exit) ≡ reducedIn (links s (now (ends .entry)) (now (offsets .entry)) (now (listed .entry))) anchor from into (now (work .entry)) ⌝ }
 {
     ReducedOperator { work: work }.apply(s, ends, offsets, listed, anchor, from, into)

@@ -1,58 +1,55 @@
-// The reduced camera system, matrix-free. The effective weights and the point weights stand in the work buffer.
+// The reduced camera system, matrix-free (the Rust's `ReducedOperator`). The effective weights and the point weights stand in the work buffer.
 pub mod held;
 mod short;
 
 use field::Vec3;
+use field::anchored;
 use field::gain3;
 use field::get3;
 use field::put3;
+use field::zero;
 use network::Shape;
+use network::Span;
+use network::links::camera_of;
+use network::links::listed_at;
+use network::links::span_of;
+use network::links::target_of;
 use short::four_rows;
 use short::three_rows;
 use short::two_rows;
-use system::work::effective_at;
-use system::work::weights_at;
+use system::reads::point_weight;
+use system::reads::row_weight;
 ghost use mathlib.Core.Path.{_≡_};
-ghost use mathlib.Core.Bool.{cond};
 ghost use Prim.Native.Nat.{_+_, _*_, _<_, _≤_};
-ghost use lib.Dec.{eqb};
-ghost use lib.ListN.{length, getD};
-ghost use lib.Ieee.{nan};
-ghost use Rattle.field.specs.Vec.{origin, plus, minus, scale};
+ghost use lib.ListN.{length};
+ghost use Rattle.field.specs.Vec.{at, origin, plus, minus, scale};
 ghost use Rattle.field.specs.Count.{upto};
-ghost use Rattle.field.specs.Buffer.{get, load, store, vector};
-ghost use Rattle.network.specs.Network.{rows, firstEnd, secondEnd};
-ghost use Rattle.network.specs.Sound.{ShapeSound};
-ghost use Rattle.system.specs.Work.{matrixAt};
-ghost use Rattle.operator.specs.Operator.{links, changed, ridged, times, spanOf, meanStep, bearingStep, listStep, spanPass, pointStep, directionStep};
-ghost use Rattle.operator.specs.Posed.{EndsLinked, OffsetsLinked, ListedLinked, Linked, Within, Ordered, Laid, weightsIn, applied, reducedIn};
+ghost use Rattle.field.specs.Buffer.{get, put, load, store, vector};
+ghost use Rattle.network.specs.Network.{links, firstEnd, rows};
+ghost use Rattle.network.specs.inner.Sound.{ShapeSound, EndsSound, ListedSound, LinksSound};
+ghost use Rattle.system.specs.Work.{matrixAt, weightsAt};
+ghost use Rattle.system.specs.inner.Formed.{weightsIn};
+ghost use Rattle.operator.specs.Operator.{changed, ridgeAt, ridged, times, meanStep, bearingStep, listStep, spanPass, pointStep, directionStep};
+ghost use Rattle.operator.specs.inner.Applied.{PlacesIn, Ordered, FieldsIn, applied, reducedIn};
 
-// u at the anchor, v at any other camera i.
-pub fn anchored(i: usize, anchor: usize, u: Vec3, v: Vec3) -> Vec3
-    ensures { λ r. ⌜ r ≡ cond (eqb i anchor) u v ⌝ }
+// Camera i × 1e-6, and zero at the anchor.
+fn ridge_at(work: &mut [f64], anchor: usize, from: usize, into: usize, i: usize)
+    requires { ⌜ (i < 4096) × (from + 3 * i + 3 ≤ length (now work)) × (into + 3 * i + 3 ≤ length (now work)) ⌝ }
+    ensures { λ r. ⌜ now (work .exit) ≡ put vector (now (work .entry)) (into + 3 * i) (ridgeAt anchor i (get vector (now (work .entry)) (from + 3 * i))) ⌝ }
 {
-    if i == anchor { u } else { v }
-}
-
-pub fn zero() -> Vec3
-    ensures { λ r. ⌜ r ≡ origin ⌝ }
-{
-    Vec3 {
-        x: 0.0,
-        y: 0.0,
-        z: 0.0,
-    }
+    let v = anchored(i, anchor, zero(), get3(work, from + 3 * i).mul(1e-6));
+    put3(work, into + 3 * i, v);
 }
 
 // The cameras × 1e-6, and zero at the anchor.
-fn ridge_pass(work: &mut [f64], n: usize, anchor: usize, from: usize, into: usize)
-    requires { ⌜ Ordered n from into (length (now work)) ⌝ }
-    ensures { λ r. ⌜ now (work .exit) ≡ store vector (now (work .entry)) into (ridged n anchor (load vector (now (work .entry)) from n)) ⌝ }
+fn ridge_pass(s: Shape, work: &mut [f64], anchor: usize, from: usize, into: usize)
+    requires { ⌜ Ordered s from into (length (now work)) ⌝ }
+    ensures { λ r. ⌜ now (work .exit) ≡ store vector (now (work .entry)) into (ridged (s .cameras) anchor (load vector (now (work .entry)) from (s .cameras))) ⌝ }
 {
+    let n = s.cameras;
     let mut i = 0usize;
     while i < n {
-        let v = anchored(i, anchor, zero(), get3(work, from + 3 * i).mul(1e-6));
-        put3(work, into + 3 * i, v);
+        ridge_at(work, anchor, from, into, i);
         i += 1;
     }
 }
@@ -78,63 +75,6 @@ fn lose(work: &mut [f64], n: usize, anchor: usize, into: usize, c: usize, v: Vec
     }
 }
 
-// ---- what is read of the links, with its range
-
-// The camera of a bearing, the source of a direction.
-pub(crate) fn camera_of(s: Shape, ends: &[usize], r: usize) -> usize
-    requires { ⌜ EndsLinked s (now ends) ⌝ }
-    requires { ⌜ r < rows s ⌝ }
-    ensures { λ c. ⌜ (c ≡ firstEnd (now (ends .entry)) r) × (c < s .cameras) ⌝ }
-{
-    ends[2 * r]
-}
-
-// The target of a direction.
-fn target_of(s: Shape, ends: &[usize], r: usize) -> usize
-    requires { ⌜ EndsLinked s (now ends) ⌝ }
-    requires { ⌜ (s .bearings ≤ r) × (r < rows s) ⌝ }
-    ensures { λ c. ⌜ (c ≡ secondEnd (now (ends .entry)) r) × (c < s .cameras) ⌝ }
-{
-    ends[2 * r + 1]
-}
-
-// The places of the point lists that a point has: so many, from the first on.
-pub struct Span {
-    pub first: usize,
-    pub size: usize,
-}
-
-fn span_of(s: Shape, offsets: &[usize], p: usize) -> Span
-    requires { ⌜ OffsetsLinked s (now offsets) ⌝ }
-    requires { ⌜ p < s .points ⌝ }
-    ensures { λ r. ⌜ (r ≡ spanOf (now (offsets .entry)) p) × (r .first + r .size ≤ s .bearings) ⌝ }
-{
-    let first = offsets[p];
-    Span {
-        first: first,
-        size: offsets[p + 1] - first,
-    }
-}
-
-// The bearing at place k of the point lists.
-pub(crate) fn listed_at(s: Shape, listed: &[usize], k: usize) -> usize
-    requires { ⌜ ListedLinked s (now listed) ⌝ }
-    requires { ⌜ k < s .bearings ⌝ }
-    ensures { λ r. ⌜ (r ≡ getD (now (listed .entry)) k 0) × (r < s .bearings) ⌝ }
-{
-    listed[k]
-}
-
-// ---- the steps
-
-// (v - u) × the number that stands at `at`.
-fn pulled(work: &[f64], at: usize, v: Vec3, u: Vec3) -> Vec3
-    requires { ⌜ at < length (now work) ⌝ }
-    ensures { λ x. ⌜ x ≡ scale (minus v u) (getD (now (work .entry)) at nan) ⌝ }
-{
-    v.sub(u).mul(work[at])
-}
-
 // The camera of bearing r gains (camera - u) × its effective weight.
 fn bearing_step(
     s: Shape,
@@ -146,34 +86,42 @@ fn bearing_step(
     r: usize,
     u: Vec3,
 )
-    requires { ⌜ EndsLinked s (now ends) ⌝ }
-    requires { ⌜ Laid s from into (length (now work)) ⌝ }
+    requires { ⌜ EndsSound s (now ends) ⌝ }
+    requires { ⌜ FieldsIn s from into (length (now work)) ⌝ }
     requires { ⌜ r < rows s ⌝ }
     ensures { λ x. ⌜ now (work .exit) ≡ applied s from into (bearingStep (now (ends .entry)) anchor u r) (now (work .entry)) ⌝ }
 {
     let c = camera_of(s, ends, r);
     let x = get3(work, from + 3 * c);
-    let v = pulled(work, effective_at(s) + r, x, u);
+    let v = x.sub(u).mul(row_weight(s, work, r));
     gain(work, s.cameras, anchor, into, c, v);
 }
 
-// The sum of the cameras that see a point, by effective weight.
-fn point_sum(s: Shape, ends: &[usize], listed: &[usize], work: &[f64], from: usize, p: Span) -> Vec3
-    requires { ⌜ EndsLinked s (now ends) ⌝ }
-    requires { ⌜ ListedLinked s (now listed) ⌝ }
-    requires { ⌜ Within s from (p .first) (p .size) (length (now work)) ⌝ }
-    ensures { λ v. ⌜ v ≡ upto (meanStep (now (ends .entry)) (now (listed .entry)) (p .first) (weightsIn s (now (work .entry))) (load vector (now (work .entry)) from (s .cameras))) (p .size) origin ⌝ }
+// Camera × effective weight of bearing r.
+fn weighted(s: Shape, ends: &[usize], work: &[f64], from: usize, r: usize) -> Vec3
+    requires { ⌜ EndsSound s (now ends) ⌝ }
+    requires { ⌜ (r < s .bearings) × (from + 3 * s .cameras ≤ weightsAt s) × (matrixAt s ≤ length (now work)) ⌝ }
+    ensures { λ v. ⌜ v ≡ scale (at (load vector (now (work .entry)) from (s .cameras)) (firstEnd (now (ends .entry)) r)) (weightsIn s (now (work .entry)) .row r) ⌝ }
 {
-    let at = effective_at(s);
-    let first = p.first;
-    let size = p.size;
+    let c = camera_of(s, ends, r);
+    get3(work, from + 3 * c).mul(row_weight(s, work, r))
+}
+
+// The sum of the cameras that see a point, by effective weight.
+fn point_sum(s: Shape, ends: &[usize], listed: &[usize], work: &[f64], from: usize, k: Span) -> Vec3
+    requires { ⌜ EndsSound s (now ends) ⌝ }
+    requires { ⌜ ListedSound (s .bearings) (now listed) ⌝ }
+    requires { ⌜ PlacesIn s from (k .first) (k .size) (length (now work)) ⌝ }
+    ensures { λ v. ⌜ v ≡ upto (meanStep (now (ends .entry)) (now (listed .entry)) k (weightsIn s (now (work .entry)))
+        (load vector (now (work .entry)) from (s .cameras))) (k .size) origin ⌝ }
+{
+    let first = k.first;
+    let size = k.size;
     let mut sum = zero();
     let mut i = 0usize;
     while i < size {
         let r = listed_at(s, listed, first + i);
-        let c = camera_of(s, ends, r);
-        let v = get3(work, from + 3 * c).mul(work[at + r]);
-        sum = sum.add(v);
+        sum = sum.add(weighted(s, ends, work, from, r));
         i += 1;
     }
     sum
@@ -188,17 +136,17 @@ fn point_gain(
     anchor: usize,
     from: usize,
     into: usize,
-    p: Span,
+    k: Span,
     u: Vec3,
 )
-    requires { ⌜ EndsLinked s (now ends) ⌝ }
-    requires { ⌜ ListedLinked s (now listed) ⌝ }
-    requires { ⌜ Laid s from into (length (now work)) ⌝ }
-    requires { ⌜ p .first + p .size ≤ s .bearings ⌝ }
-    ensures { λ x. ⌜ now (work .exit) ≡ applied s from into (times (listStep (now (ends .entry)) (now (listed .entry)) (p .first) anchor u) (p .size)) (now (work .entry)) ⌝ }
+    requires { ⌜ EndsSound s (now ends) ⌝ }
+    requires { ⌜ ListedSound (s .bearings) (now listed) ⌝ }
+    requires { ⌜ FieldsIn s from into (length (now work)) ⌝ }
+    requires { ⌜ k .first + k .size ≤ s .bearings ⌝ }
+    ensures { λ x. ⌜ now (work .exit) ≡ applied s from into (times (listStep (now (ends .entry)) (now (listed .entry)) k anchor u) (k .size)) (now (work .entry)) ⌝ }
 {
-    let first = p.first;
-    let size = p.size;
+    let first = k.first;
+    let size = k.size;
     let mut i = 0usize;
     while i < size {
         let r = listed_at(s, listed, first + i);
@@ -216,17 +164,17 @@ fn long_step(
     anchor: usize,
     from: usize,
     into: usize,
-    p: Span,
+    k: Span,
     t: f64,
 )
-    requires { ⌜ EndsLinked s (now ends) ⌝ }
-    requires { ⌜ ListedLinked s (now listed) ⌝ }
-    requires { ⌜ Laid s from into (length (now work)) ⌝ }
-    requires { ⌜ p .first + p .size ≤ s .bearings ⌝ }
-    ensures { λ x. ⌜ now (work .exit) ≡ applied s from into (spanPass (now (ends .entry)) (now (listed .entry)) anchor p t) (now (work .entry)) ⌝ }
+    requires { ⌜ EndsSound s (now ends) ⌝ }
+    requires { ⌜ ListedSound (s .bearings) (now listed) ⌝ }
+    requires { ⌜ FieldsIn s from into (length (now work)) ⌝ }
+    requires { ⌜ k .first + k .size ≤ s .bearings ⌝ }
+    ensures { λ x. ⌜ now (work .exit) ≡ applied s from into (spanPass (now (ends .entry)) (now (listed .entry)) anchor k t) (now (work .entry)) ⌝ }
 {
-    let u = point_sum(s, ends, listed, work, from, p).div(t);
-    point_gain(s, ends, listed, work, anchor, from, into, p, u);
+    let u = point_sum(s, ends, listed, work, from, k).div(t);
+    point_gain(s, ends, listed, work, anchor, from, into, k, u);
 }
 
 // The same; of a list of two, three or four each bearing is read once.
@@ -238,22 +186,22 @@ fn list_step(
     anchor: usize,
     from: usize,
     into: usize,
-    p: Span,
+    k: Span,
     t: f64,
 )
-    requires { ⌜ EndsLinked s (now ends) ⌝ }
-    requires { ⌜ ListedLinked s (now listed) ⌝ }
-    requires { ⌜ Laid s from into (length (now work)) ⌝ }
-    requires { ⌜ p .first + p .size ≤ s .bearings ⌝ }
-    ensures { λ x. ⌜ now (work .exit) ≡ applied s from into (spanPass (now (ends .entry)) (now (listed .entry)) anchor p t) (now (work .entry)) ⌝ }
+    requires { ⌜ EndsSound s (now ends) ⌝ }
+    requires { ⌜ ListedSound (s .bearings) (now listed) ⌝ }
+    requires { ⌜ FieldsIn s from into (length (now work)) ⌝ }
+    requires { ⌜ k .first + k .size ≤ s .bearings ⌝ }
+    ensures { λ x. ⌜ now (work .exit) ≡ applied s from into (spanPass (now (ends .entry)) (now (listed .entry)) anchor k t) (now (work .entry)) ⌝ }
 {
-    let k = p.first;
-    let size = p.size;
+    let first = k.first;
+    let size = k.size;
     match size {
-        2 => two_rows(s, ends, listed, work, anchor, from, into, k, t),
-        3 => three_rows(s, ends, listed, work, anchor, from, into, k, t),
-        4 => four_rows(s, ends, listed, work, anchor, from, into, k, t),
-        _ => long_step(s, ends, listed, work, anchor, from, into, p, t),
+        2 => two_rows(s, ends, listed, work, anchor, from, into, first, t),
+        3 => three_rows(s, ends, listed, work, anchor, from, into, first, t),
+        4 => four_rows(s, ends, listed, work, anchor, from, into, first, t),
+        _ => long_step(s, ends, listed, work, anchor, from, into, k, t),
     }
 }
 
@@ -269,13 +217,12 @@ fn point_step(
     into: usize,
     p: usize,
 )
-    requires { ⌜ Linked (links s (now ends) (now offsets) (now listed)) ⌝ }
-    requires { ⌜ Laid s from into (length (now work)) ⌝ }
+    requires { ⌜ LinksSound (links s (now ends) (now offsets) (now listed)) ⌝ }
+    requires { ⌜ FieldsIn s from into (length (now work)) ⌝ }
     requires { ⌜ p < s .points ⌝ }
     ensures { λ x. ⌜ now (work .exit) ≡ applied s from into (pointStep (links s (now (ends .entry)) (now (offsets .entry)) (now (listed .entry))) anchor p) (now (work .entry)) ⌝ }
 {
-    let at = weights_at(s);
-    let w = work[at + p];
+    let w = point_weight(s, work, p);
     if w < 1e-12 {
         return;
     }
@@ -302,8 +249,8 @@ fn points_pass(
     from: usize,
     into: usize,
 )
-    requires { ⌜ Linked (links s (now ends) (now offsets) (now listed)) ⌝ }
-    requires { ⌜ Laid s from into (length (now work)) ⌝ }
+    requires { ⌜ LinksSound (links s (now ends) (now offsets) (now listed)) ⌝ }
+    requires { ⌜ FieldsIn s from into (length (now work)) ⌝ }
     ensures { λ x. ⌜ now (work .exit) ≡ applied s from into (times (pointStep (links s (now (ends .entry)) (now (offsets .entry)) (now (listed .entry))) anchor) (s .points)) (now (work .entry)) ⌝ }
 {
     let m = s.points;
@@ -317,12 +264,13 @@ fn points_pass(
 // (camera j - camera i) × the effective weight of row r.
 fn between(s: Shape, work: &[f64], from: usize, r: usize, i: usize, j: usize) -> Vec3
     requires { ⌜ ShapeSound s ⌝ }
-    requires { ⌜ (r < rows s) × (i < s .cameras) × (j < s .cameras) × (from + 3 * s .cameras ≤ 23 * s .cameras) × (matrixAt s ≤ length (now work)) ⌝ }
-    ensures { λ v. ⌜ v ≡ scale (minus (get vector (now (work .entry)) (from + 3 * j)) (get vector (now (work .entry)) (from + 3 * i))) (weightsIn s (now (work .entry)) .row r) ⌝ }
+    requires { ⌜ (r < rows s) × (i < s .cameras) × (j < s .cameras) × (from + 3 * s .cameras ≤ weightsAt s) × (matrixAt s ≤ length (now work)) ⌝ }
+    ensures { λ v. ⌜ v ≡ scale (minus (get vector (now (work .entry)) (from + 3 * j)) (get vector (now (work .entry)) (from + 3 * i)))
+        (weightsIn s (now (work .entry)) .row r) ⌝ }
 {
     let x = get3(work, from + 3 * j);
     let y = get3(work, from + 3 * i);
-    pulled(work, effective_at(s) + r, x, y)
+    x.sub(y).mul(row_weight(s, work, r))
 }
 
 // The source of direction d loses (target - source) × its effective weight, and then its target gains it.
@@ -335,8 +283,8 @@ fn direction_step(
     into: usize,
     d: usize,
 )
-    requires { ⌜ EndsLinked s (now ends) ⌝ }
-    requires { ⌜ Laid s from into (length (now work)) ⌝ }
+    requires { ⌜ EndsSound s (now ends) ⌝ }
+    requires { ⌜ FieldsIn s from into (length (now work)) ⌝ }
     requires { ⌜ d < s .directions ⌝ }
     ensures { λ x. ⌜ now (work .exit) ≡ applied s from into (directionStep (s .bearings) (now (ends .entry)) anchor d) (now (work .entry)) ⌝ }
 {
@@ -356,8 +304,8 @@ fn directions_pass(
     from: usize,
     into: usize,
 )
-    requires { ⌜ EndsLinked s (now ends) ⌝ }
-    requires { ⌜ Laid s from into (length (now work)) ⌝ }
+    requires { ⌜ EndsSound s (now ends) ⌝ }
+    requires { ⌜ FieldsIn s from into (length (now work)) ⌝ }
     ensures { λ x. ⌜ now (work .exit) ≡ applied s from into (times (directionStep (s .bearings) (now (ends .entry)) anchor) (s .directions)) (now (work .entry)) ⌝ }
 {
     let e = s.directions;
@@ -379,10 +327,10 @@ pub(crate) fn apply_core(
     from: usize,
     into: usize,
 )
-    requires { ⌜ Linked (links s (now ends) (now offsets) (now listed)) × Laid s from into (length (now work)) ⌝ }
+    requires { ⌜ LinksSound (links s (now ends) (now offsets) (now listed)) × FieldsIn s from into (length (now work)) ⌝ }
     ensures { λ x. ⌜ now (work .exit) ≡ reducedIn (links s (now (ends .entry)) (now (offsets .entry)) (now (listed .entry))) anchor from into (now (work .entry)) ⌝ }
 {
-    ridge_pass(work, s.cameras, anchor, from, into);
+    ridge_pass(s, work, anchor, from, into);
     points_pass(s, ends, offsets, listed, work, anchor, from, into);
     directions_pass(s, ends, work, anchor, from, into);
 }

@@ -1,19 +1,20 @@
 // A point that two, three or four cameras see: each of its bearings is read once.
-use crate::camera_of;
 use crate::gain;
-use crate::listed_at;
-use crate::zero;
 use field::Vec3;
 use field::get3;
+use field::zero;
 use network::Shape;
-use system::work::effective_at;
+use network::links::camera_of;
+use network::links::listed_at;
+use system::reads::row_weight;
 ghost use mathlib.Core.Path.{_≡_};
 ghost use Prim.Native.Nat.{_+_, _*_, _<_, _≤_};
 ghost use lib.ListN.{length, getD};
 ghost use Rattle.field.specs.Vec.{origin, plus, minus, scale, over};
 ghost use Rattle.field.specs.Buffer.{load, store, vector};
 ghost use Rattle.operator.specs.Operator.{gains, spanPass};
-ghost use Rattle.operator.specs.Posed.{EndsLinked, ListedLinked, Within, Laid, Seen, applied};
+ghost use Rattle.network.specs.inner.Sound.{EndsSound, ListedSound};
+ghost use Rattle.operator.specs.inner.Applied.{PlacesIn, FieldsIn, Seen, applied};
 
 // What a point has of one bearing: its camera, its effective weight, and the camera's vector.
 pub(crate) struct Sight {
@@ -40,18 +41,17 @@ impl Sight {
 
 // The bearing at place k of the point lists.
 fn seen(s: Shape, ends: &[usize], listed: &[usize], work: &[f64], from: usize, k: usize) -> Sight
-    requires { ⌜ EndsLinked s (now ends) ⌝ }
-    requires { ⌜ ListedLinked s (now listed) ⌝ }
-    requires { ⌜ Within s from k 1 (length (now work)) ⌝ }
+    requires { ⌜ EndsSound s (now ends) ⌝ }
+    requires { ⌜ ListedSound (s .bearings) (now listed) ⌝ }
+    requires { ⌜ PlacesIn s from k 1 (length (now work)) ⌝ }
     ensures { λ t. ⌜ Seen s (now (ends .entry)) (now (work .entry)) from (getD (now (listed .entry)) k 0) t ⌝ }
 {
     let r = listed_at(s, listed, k);
     let c = camera_of(s, ends, r);
-    let at = effective_at(s);
     let v = get3(work, from + 3 * c);
     Sight {
         camera: c,
-        weight: work[at + r],
+        weight: row_weight(s, work, r),
         at: v,
     }
 }
@@ -143,9 +143,9 @@ pub(crate) fn two_rows(
     k: usize,
     t: f64,
 )
-    requires { ⌜ EndsLinked s (now ends) ⌝ }
-    requires { ⌜ ListedLinked s (now listed) ⌝ }
-    requires { ⌜ Laid s from into (length (now work)) ⌝ }
+    requires { ⌜ EndsSound s (now ends) ⌝ }
+    requires { ⌜ ListedSound (s .bearings) (now listed) ⌝ }
+    requires { ⌜ FieldsIn s from into (length (now work)) ⌝ }
     requires { ⌜ k + 2 ≤ s .bearings ⌝ }
     ensures { λ x. ⌜ now (work .exit) ≡ applied s from into (spanPass (now (ends .entry)) (now (listed .entry)) anchor (record { first = k; size = 2 }) t) (now (work .entry)) ⌝ }
 {
@@ -165,9 +165,9 @@ pub(crate) fn three_rows(
     k: usize,
     t: f64,
 )
-    requires { ⌜ EndsLinked s (now ends) ⌝ }
-    requires { ⌜ ListedLinked s (now listed) ⌝ }
-    requires { ⌜ Laid s from into (length (now work)) ⌝ }
+    requires { ⌜ EndsSound s (now ends) ⌝ }
+    requires { ⌜ ListedSound (s .bearings) (now listed) ⌝ }
+    requires { ⌜ FieldsIn s from into (length (now work)) ⌝ }
     requires { ⌜ k + 3 ≤ s .bearings ⌝ }
     ensures { λ x. ⌜ now (work .exit) ≡ applied s from into (spanPass (now (ends .entry)) (now (listed .entry)) anchor (record { first = k; size = 3 }) t) (now (work .entry)) ⌝ }
 {
@@ -188,9 +188,9 @@ pub(crate) fn four_rows(
     k: usize,
     t: f64,
 )
-    requires { ⌜ EndsLinked s (now ends) ⌝ }
-    requires { ⌜ ListedLinked s (now listed) ⌝ }
-    requires { ⌜ Laid s from into (length (now work)) ⌝ }
+    requires { ⌜ EndsSound s (now ends) ⌝ }
+    requires { ⌜ ListedSound (s .bearings) (now listed) ⌝ }
+    requires { ⌜ FieldsIn s from into (length (now work)) ⌝ }
     requires { ⌜ k + 4 ≤ s .bearings ⌝ }
     ensures { λ x. ⌜ now (work .exit) ≡ applied s from into (spanPass (now (ends .entry)) (now (listed .entry)) anchor (record { first = k; size = 4 }) t) (now (work .entry)) ⌝ }
 {

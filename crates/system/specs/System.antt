@@ -22,6 +22,10 @@ use Rattle.system.specs.declared.CameraTerm.{CameraTerm}
 abbrev pub tiny : Float
 tiny = ofBits binary64 0x3d719799812dea11
 
+-- 1e-6, added to each diagonal
+abbrev pub ridge : Float
+ridge = ofBits binary64 0x3eb0c6f7a0b5ed8d
+
 abbrev pub one : Float
 one = ofBits binary64 0x3ff0000000000000
 

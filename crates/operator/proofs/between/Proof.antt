@@ -1,4 +1,4 @@
-use Rattle.operator.proofs.Standing.{pull-read}
+use Rattle.operator.proofs.Passes.{between-is}
 use borrow.Author.Needs.{needs}
 use Rattle.operator.proofs.between.Statement.{statement}
 use Rattle.operator.proofs.between.Tie as tie
@@ -14,6 +14,6 @@ between-spec =
     (λ c. search needs)
     (λ c κs. search needs)
     (λ c κs. search needs)
-    (λ c. search needs)
     (λ c κs. search needs)
-    (λ c. search pull-read))
+    (λ c κs. search needs)
+    (λ c. search between-is))

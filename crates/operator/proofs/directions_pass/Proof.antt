@@ -1,7 +1,7 @@
 use mathlib.Core.Path.{_≡_, refl}
 use Prim.Native.Nat.{_-_, _≤_}
 use lib.ListN.{length}
-use Rattle.operator.specs.Posed.{applied}
+use Rattle.operator.specs.inner.Applied.{applied}
 use Rattle.operator.proofs.Passes.{directions-more, ended, none}
 use Rattle.operator.specs.Operator.{directionStep, times}
 use borrow.Author.Needs.{needs}

@@ -1,4 +1,5 @@
-use Rattle.operator.proofs.Passes.{point-met, point-skipped}
+use Rattle.operator.proofs.Passes.{point-skipped, point-met}
+use native.Mathlib.Omega.{arith}
 use borrow.Author.Needs.{needs}
 use Rattle.operator.proofs.point_step.Statement.{statement}
 use Rattle.operator.proofs.point_step.Tie as tie
@@ -9,10 +10,8 @@ point-step-spec =
     (tie.spec
     (λ c κs. search needs)
     (λ c. search needs)
-    (λ c. search needs)
-    (λ c. search needs)
     (λ c. search point-skipped)
     (λ c κs. search needs)
-    (λ c κs. (search needs, (search needs, (search needs, search needs))))
+    (λ c κs. (search needs, (search needs, (search needs, omega arith))))
     (λ c. search needs)
     (λ c. search point-met))

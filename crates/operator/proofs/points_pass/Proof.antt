@@ -2,11 +2,12 @@ use borrow.Author.Needs.{needs}
 use mathlib.Core.Path.{_≡_, refl}
 use Prim.Native.Nat.{_-_, _≤_}
 use lib.ListN.{length}
-use Rattle.operator.specs.Posed.{applied}
+use Rattle.operator.specs.inner.Applied.{applied}
 use Rattle.operator.proofs.Passes.{ended, none, points-more}
-use Rattle.operator.specs.Operator.{links, pointStep, times}
+use Rattle.operator.specs.Operator.{pointStep, times}
 use native.Mathlib.Omega.{arith}
 use Rattle.operator.proofs.points_pass.Statement.{statement}
+use Rattle.network.specs.Network.{links}
 use Rattle.operator.proofs.points_pass.Tie as tie
 
 abbrev Inv-loop : tie.InvT-loop

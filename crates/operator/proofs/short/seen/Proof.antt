@@ -1,4 +1,4 @@
-use Rattle.operator.proofs.Standing.{seen-done}
+use Rattle.operator.proofs.Buffered.{seen-done}
 use borrow.Author.Needs.{needs}
 use Rattle.operator.proofs.short.seen.Statement.{statement}
 use Rattle.operator.proofs.short.seen.Tie as tie
@@ -9,11 +9,8 @@ seen-spec =
     (tie.spec
     (λ c κs. search needs)
     (λ c κs. search needs)
-    (λ c κs. search needs)
     (λ c. search needs)
     (λ c. search needs)
     (λ c κs. search needs)
-    (λ c. search needs)
-    (λ c. search needs)
-    (λ c. search needs)
+    (λ c κs. search needs)
     (λ c. search seen-done))
