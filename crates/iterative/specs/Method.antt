@@ -4,7 +4,7 @@
 -- Golub and Van Loan, Matrix Computations, 'Preconditioned conjugate gradients', for A x = b with the preconditioner M, a diagonal:
 --     r = b, z = M⁻¹ r, p = z, ρ = r·z                                            `start`
 --     w = A p, α = ρ / p·w, x = x + α p, r = r - α w                              `moved`
---     z = M⁻¹ r, β = (r·z) / ρ, p = z + β p, ρ = r·z, while r·r is above a bound  `turned`
+--     z = M⁻¹ r, β = (r·z) / ρ, p = z + β p, ρ = r·z, while r·r is above a bound  `redirected`
 -- Here x is `positions`, b `right`, r `residual`, z `preconditioned`, p `search`, w `applied`, ρ `old` and then `new`, and p·w is the curvature.
 use mathlib.Core.List.{List}
 use mathlib.Core.Bool.{Bool, cond, false, not, true, _&&_, _||_}
@@ -13,21 +13,18 @@ use lib.Dec.{eqb}
 use lib.Ieee.{Float, add, binary64, div, le, lt, mul, ofBits, sub}
 use lib.Ieee.Scale.{finite}
 use Rattle.field.specs.Count.{field, lowest, upto}
-use Rattle.field.specs.Vec.{Axis, X, Y, Z, each, minus, null, on, origin, over}
+use Rattle.field.specs.Vec.{Axis, X, Y, Z, at, each, minus, null, on, origin, over}
 use Rattle.field.specs.declared.Place.{Place}
 use Rattle.field.specs.declared.Place.the-variants.{At, Nowhere}
 use Rattle.field.specs.declared.Vec3.{Vec3}
 use Rattle.double.specs.Double.{greater, magnitude}
 use Rattle.sqrt.specs.Root.{root}
-use Rattle.operator.specs.Operator.{at}
+use Rattle.system.specs.System.{tiny}
 use Rattle.iterative.specs.Problem.{Problem, fieldDot, mostRounds}
 use Rattle.iterative.specs.declared.Active.{Active}
 use Rattle.iterative.specs.declared.Round.{Round}
 
--- ---- constants: 1e-12, 1e-10 and 2^-52
-
-abbrev pub absolute : Float
-absolute = ofBits binary64 0x3d719799812dea11
+-- ---- constants: 1e-10 and 2^-52 (1e-12 is `tiny`)
 
 abbrev pub relative : Float
 relative = ofBits binary64 0x3ddb7cdfd9d7bdbb
@@ -65,33 +62,33 @@ squared x = mul binary64 x x
 
 -- the bound that ends a component: max(1e-12 × 1e-12, (1e-10 × 1e-10) × its right-side square sum). `max` passes over NaN.
 unfoldable pub boundOf : Vec3 → Vec3
-boundOf sums = each (λ k. greater (squared absolute) (mul binary64 (squared relative) (on k sums)))
+boundOf sums = each (λ k. greater (squared tiny) (mul binary64 (squared relative) (on k sums)))
 
 -- the final residual that is allowed: (1e-10 × root of its right-side square sum + 1e-12), squared as one product with itself
 unfoldable pub allowedOf : Vec3 → Vec3
-allowedOf sums = each (λ k. squared (add binary64 (mul binary64 relative (root binary64 (on k sums))) absolute))
+allowedOf sums = each (λ k. squared (add binary64 (mul binary64 relative (root binary64 (on k sums))) tiny))
 
 -- at the start: the right-side square sum exceeds the bound (a NaN does not)
-unfoldable pub opening : Vec3 → Vec3 → Active
-opening bound sums = flags (λ k. lt (on k bound) (on k sums))
+unfoldable pub startsActive : Vec3 → Vec3 → Active
+startsActive bound sums = flags (λ k. lt (on k bound) (on k sums))
 
 -- after a step: active still, unless the residual's square sum is down to the bound (a NaN is not)
-unfoldable pub remaining : Vec3 → Active → Vec3 → Active
-remaining bound active sums = flags (λ k. flag k active && not (le (on k sums) (on k bound)))
+unfoldable pub staysActive : Vec3 → Active → Vec3 → Active
+staysActive bound active sums = flags (λ k. flag k active && not (le (on k sums) (on k bound)))
 
 -- 11: curvature not finite, or at most 2^-52 × size of old product
-unfoldable pub flatAt : Active → Vec3 → Vec3 → Axis → Bool
-flatAt active old curvature k =
+unfoldable pub badCurvature : Active → Vec3 → Vec3 → Axis → Bool
+badCurvature active old curvature k =
     flag k active
     && (not (finite (on k curvature)) || le (on k curvature) (mul binary64 epsilon (magnitude (on k old))))
 
 -- 12: new product not finite, or old product at or below 0
-unfoldable pub brokenAt : Active → Vec3 → Vec3 → Axis → Bool
-brokenAt active old new k = flag k active && (not (finite (on k new)) || le (on k old) null)
+unfoldable pub badProduct : Active → Vec3 → Vec3 → Axis → Bool
+badProduct active old new k = flag k active && (not (finite (on k new)) || le (on k old) null)
 
 -- 13: final residual not finite or above the allowed
-unfoldable pub unfitAt : Vec3 → Vec3 → Axis → Bool
-unfitAt allowed residual k = not (finite (on k residual)) || lt (on k allowed) (on k residual)
+unfoldable pub badResidual : Vec3 → Vec3 → Axis → Bool
+badResidual allowed residual k = not (finite (on k residual)) || lt (on k allowed) (on k residual)
 
 -- ---- operations on the three numbers of a camera
 
@@ -103,8 +100,8 @@ unfoldable pub stepped : (Float → Float → Float) → Active → Vec3 → Vec
 stepped op active alpha v w = each (λ k. cond (flag k active) (op (on k v) (mul binary64 (on k alpha) (on k w))) (on k v))
 
 -- z + beta × p in an active component; +0.0 in one that is done
-unfoldable pub renewed : Active → Vec3 → Vec3 → Vec3 → Vec3
-renewed active beta z p = each (λ k. cond (flag k active) (add binary64 (on k z) (mul binary64 (on k beta) (on k p))) null)
+unfoldable pub searchStep : Active → Vec3 → Vec3 → Vec3 → Vec3
+searchStep active beta z p = each (λ k. cond (flag k active) (add binary64 (on k z) (mul binary64 (on k beta) (on k p))) null)
 
 -- ---- operations on fields of n cameras, whose anchor is a
 
@@ -121,12 +118,12 @@ unfoldable pub preconditioned : ℕ → ℕ → (ℕ → Float) → List Vec3 �
 preconditioned n a d r = others n a (λ i. origin) (λ i. over (at r i) (d i))
 
 -- f stepped along g; the anchor stands still
-unfoldable pub advanced : ℕ → ℕ → (Float → Float → Float) → Active → Vec3 → List Vec3 → List Vec3 → List Vec3
-advanced n a op active alpha f g = others n a (at f) (λ i. stepped op active alpha (at f i) (at g i))
+unfoldable pub steppedField : ℕ → ℕ → (Float → Float → Float) → Active → Vec3 → List Vec3 → List Vec3 → List Vec3
+steppedField n a op active alpha f g = others n a (at f) (λ i. stepped op active alpha (at f i) (at g i))
 
 -- the next search vector, of z and p; at the anchor too
-unfoldable pub searching : ℕ → Active → Vec3 → List Vec3 → List Vec3 → List Vec3
-searching n active beta z p = field n (λ i. renewed active beta (at z i) (at p i))
+unfoldable pub searchField : ℕ → Active → Vec3 → List Vec3 → List Vec3 → List Vec3
+searchField n active beta z p = field n (λ i. searchStep active beta (at z i) (at p i))
 
 unfoldable pub difference : ℕ → List Vec3 → List Vec3 → List Vec3
 difference n f g = field n (λ i. minus (at f i) (at g i))
@@ -135,7 +132,7 @@ difference n f g = field n (λ i. minus (at f i) (at g i))
 unfoldable pub badDiagonal : ℕ → (ℕ → Float) → ℕ → Bool
 badDiagonal a d i = not (eqb i a) && (not (finite (d i)) || not (lt null (d i)))
 
--- ---- what the method carries from round to round, and how it can end
+-- ---- what the method carries from round to round
 
 pub record State : Type 0 where
   pub positions : List Vec3
@@ -143,8 +140,9 @@ pub record State : Type 0 where
   pub search : List Vec3
   pub round : Round
 
+-- after a round: a component is active still, or none is, or the method failed with number and place
 pub data Run : Type 0 where
-  going : State → Run
+  running : State → Run
   ended : State → Run
   failed : ℕ → ℕ → Run
 
@@ -152,6 +150,16 @@ pub data Run : Type 0 where
 abbrev pub unless : Place → ℕ → Run → Run
 unless (At i) k r = failed k i
 unless Nowhere k r = r
+
+-- how the whole method ends
+pub data Ending : Type 0 where
+  accepted : State → Ending
+  refused : ℕ → ℕ → Ending
+
+-- 13 at a component, where there is one
+abbrev pub acceptedUnless : Place → State → Ending
+acceptedUnless (At i) s = refused 13 i
+acceptedUnless Nowhere s = accepted s
 
 module _ (P : Problem) where
   -- the sum over all cameras but the anchor
@@ -179,12 +187,12 @@ module _ (P : Problem) where
         positions = zeros (P .cameras);
         residual = P .right;
         search = z;
-        round = record { old = inner (P .right) z; active = opening bound squareSum; count = 0 };
+        round = record { old = inner (P .right) z; active = startsActive bound squareSum; count = 0 };
       }
 
   abbrev pub opened : Place → Run
   opened (At i) = failed (cond (finite (P .diagonal i)) 10 9) i
-  opened Nowhere = cond (any (start .round .active)) (going start) (ended start)
+  opened Nowhere = cond (any (start .round .active)) (running start) (ended start)
 
   -- ---- one round
 
@@ -195,41 +203,41 @@ module _ (P : Problem) where
       let a = P .anchor in
       let r = s .round in
       let alpha = quotient (r .old) curvature in
-      let residual = advanced n a (sub binary64) (r .active) alpha (s .residual) applied in
+      let residual = steppedField n a (sub binary64) (r .active) alpha (s .residual) applied in
       record {
-        positions = advanced n a (add binary64) (r .active) alpha (s .positions) (s .search);
+        positions = steppedField n a (add binary64) (r .active) alpha (s .positions) (s .search);
         residual = residual;
         search = s .search;
-        round = record { old = r .old; active = remaining bound (r .active) (inner residual residual); count = r .count + 1 };
+        round = record { old = r .old; active = staysActive bound (r .active) (inner residual residual); count = r .count + 1 };
       }
 
   -- the next search vector, and the new products of all three components
-  unfoldable pub turned : State → List Vec3 → Vec3 → State
-  turned s z new =
+  unfoldable pub redirected : State → List Vec3 → Vec3 → State
+  redirected s z new =
       let r = s .round in
       record {
         positions = s .positions;
         residual = s .residual;
-        search = searching (P .cameras) (r .active) (quotient new (r .old)) z (s .search);
+        search = searchField (P .cameras) (r .active) (quotient new (r .old)) z (s .search);
         round = record { old = new; active = r .active; count = r .count };
       }
 
-  abbrev pub turn : State → Run
-  turn s =
+  abbrev pub redirect : State → Run
+  redirect s =
       let z = precondition (s .residual) in
       let new = inner (s .residual) z in
-      unless (component (brokenAt (s .round .active) (s .round .old) new)) 12 (going (turned s z new))
+      unless (component (badProduct (s .round .active) (s .round .old) new)) 12 (running (redirected s z new))
 
   -- on with a new search vector where a component is still active
-  abbrev pub onward : Bool → State → Run
-  onward true s = turn s
-  onward false s = ended s
+  abbrev pub continued : Bool → State → Run
+  continued true s = redirect s
+  continued false s = ended s
 
   abbrev pub step : State → List Vec3 → Run
   step s applied =
       let curvature = inner (s .search) applied in
       let t = moved s applied curvature in
-      unless (component (flatAt (s .round .active) (s .round .old) curvature)) 11 (onward (any (t .round .active)) t)
+      unless (component (badCurvature (s .round .active) (s .round .old) curvature)) 11 (continued (any (t .round .active)) t)
 
   unfoldable pub round : State → Run
   round s = step s (P .operator (s .search))
@@ -237,7 +245,7 @@ module _ (P : Problem) where
   -- ---- the rounds
 
   abbrev pub next : Run → Run
-  next (going s) = round s
+  next (running s) = round s
   next (ended s) = ended s
   next (failed k i) = failed k i
 
@@ -252,14 +260,14 @@ module _ (P : Problem) where
       let d = difference (P .cameras) (P .operator f) (P .right) in
       inner d d
 
-  abbrev pub judged : State → Run
-  judged s = unless (component (unfitAt allowed (residualOf (s .positions)))) 13 (ended s)
+  abbrev pub tested : State → Ending
+  tested s = acceptedUnless (component (badResidual allowed (residualOf (s .positions)))) s
 
-  abbrev pub closed : Run → Run
-  closed (going s) = judged s
-  closed (ended s) = judged s
-  closed (failed k i) = failed k i
+  abbrev pub closed : Run → Ending
+  closed (running s) = tested s
+  closed (ended s) = tested s
+  closed (failed k i) = refused k i
 
-  -- the whole method: `ended` with the positions and the count, or `failed` with number and place
-  unfoldable pub solution : Run
+  -- the whole method: accepted with the positions and the count, or refused with number and place
+  unfoldable pub solution : Ending
   solution = closed (rounds (mostRounds (P .cameras)))

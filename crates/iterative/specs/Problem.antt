@@ -9,9 +9,8 @@ use lib.ListN.{length}
 use lib.Ieee.{Float, binary64, mul}
 use lib.Ieee.Scale.{finite}
 use Rattle.field.specs.Count.{upto}
-use Rattle.field.specs.Vec.{Axis, each, on, origin, plus}
+use Rattle.field.specs.Vec.{Axis, at, each, on, origin, plus}
 use Rattle.field.specs.declared.Vec3.{Vec3}
-use Rattle.operator.specs.Operator.{at}
 
 pub record Problem : Type 0 where
   pub cameras : ℕ
@@ -46,7 +45,7 @@ mostRounds n = min (max (8 * (n - 1)) 64) 4000
 abbrev pub Faithful : Problem → Type 0
 Faithful P = (k : Axis) (x : List Vec3) (i : ℕ) → i < P .cameras → (i ≡ P .anchor → ⊥) → finite (on k (at (P .operator x) i)) ≡ true → finite (on k (at x i)) ≡ true
 
-pub record Sound (P : Problem) : Type 0 where
+pub record Regular (P : Problem) : Type 0 where
   -- the anchor is one of the cameras
   pub held : P .anchor < P .cameras
   pub right : length (P .right) ≡ P .cameras

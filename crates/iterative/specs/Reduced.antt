@@ -7,10 +7,10 @@ use lib.Ieee.{Float, add, binary64}
 use Rattle.field.specs.Count.{field}
 use Rattle.field.specs.Vec.{origin}
 use Rattle.field.specs.declared.Vec3.{Vec3}
-use Rattle.network.specs.Network.{Network}
-use Rattle.system.specs.System.{anchor, termAt, terms}
+use Rattle.network.specs.Network.{Links, Network, linksOf}
+use Rattle.system.specs.System.{Weights, anchor, ridge, termAt, terms, weightsOf}
 use Rattle.system.specs.declared.CameraTerm.{CameraTerm}
-use Rattle.operator.specs.Operator.{reduced, ridge}
+use Rattle.operator.specs.Operator.{reducedBy}
 use Rattle.iterative.specs.Problem.{Problem}
 
 -- camera i's diagonal with the ridge
@@ -21,16 +21,18 @@ diagonalOf ts i = add binary64 (termAt ts i .diagonal) ridge
 unfoldable pub rightOf : ℕ → ℕ → List CameraTerm → List Vec3
 rightOf n a ts = field n (λ i. cond (eqb i a) origin (termAt ts i .right))
 
--- the system that the network forms
-unfoldable pub problem : Network → Problem
-problem net =
-    let n = net .graph .shape .cameras in
-    let a = anchor net in
-    let ts = terms net in
+-- the system of links L, weights w, camera terms ts and the anchor a
+unfoldable pub problemBy : Links → Weights → List CameraTerm → ℕ → Problem
+problemBy L w ts a =
+    let n = L .shape .cameras in
     record {
       cameras = n;
       anchor = a;
       diagonal = diagonalOf ts;
       right = rightOf n a ts;
-      operator = reduced net a;
+      operator = reducedBy L w a;
     }
+
+-- the system that the network forms
+abbrev pub problem : Network → Problem
+problem net = problemBy (linksOf net) (weightsOf net) (terms net) (anchor net)

@@ -13,8 +13,9 @@ ghost use lib.Ieee.Scale.{finite};
 ghost use Rattle.field.specs.Vec.{null};
 ghost use Rattle.double.specs.Double.{greater, magnitude};
 ghost use Rattle.sqrt.specs.Root.{root};
-ghost use Rattle.iterative.specs.Method.{absolute, relative, epsilon, squared, component, any as anyOf, boundOf, allowedOf, opening as openingOf, remaining as remainingOf, flatAt, brokenAt, unfitAt, quotient as quotientOf, stepped as steppedOf, renewed as renewedOf};
-ghost use Rattle.iterative.specs.Solver.{signed, lowestFlag};
+ghost use Rattle.system.specs.System.{tiny};
+ghost use Rattle.iterative.specs.Method.{relative, epsilon, squared, component, any as anyOf, boundOf, allowedOf, startsActive, staysActive, badCurvature, badProduct, badResidual, quotient as quotientOf, stepped as steppedOf, searchStep};
+ghost use Rattle.iterative.specs.inner.Solver.{signed, lowestFlag};
 
 pub(crate) fn any(a: Active) -> bool
     ensures { λ r. ⌜ r ≡ anyOf a ⌝ }
@@ -44,7 +45,7 @@ fn lowest(a: Active) -> Place
 // ---- bounds
 
 fn bound_one(sum: f64) -> f64
-    ensures { λ r. ⌜ r ≡ greater (squared absolute) (mul binary64 (squared relative) sum) ⌝ }
+    ensures { λ r. ⌜ r ≡ greater (squared tiny) (mul binary64 (squared relative) sum) ⌝ }
 {
     max(1e-12 * 1e-12, 1e-10 * 1e-10 * sum)
 }
@@ -61,7 +62,7 @@ pub(crate) fn bound(sums: Vec3) -> Vec3
 }
 
 fn allowed_one(sum: f64) -> f64
-    ensures { λ r. ⌜ r ≡ squared (add binary64 (mul binary64 relative (root binary64 sum)) absolute) ⌝ }
+    ensures { λ r. ⌜ r ≡ squared (add binary64 (mul binary64 relative (root binary64 sum)) tiny) ⌝ }
 {
     let a = 1e-10 * sqrt(sum) + 1e-12;
     a * a
@@ -80,8 +81,8 @@ pub(crate) fn allowed(sums: Vec3) -> Vec3
 
 // ---- flags
 
-pub(crate) fn opening(bound: Vec3, sums: Vec3) -> Active
-    ensures { λ r. ⌜ r ≡ openingOf bound sums ⌝ }
+pub(crate) fn starts_active(bound: Vec3, sums: Vec3) -> Active
+    ensures { λ r. ⌜ r ≡ startsActive bound sums ⌝ }
 {
     Active {
         x: bound.x < sums.x,
@@ -90,26 +91,26 @@ pub(crate) fn opening(bound: Vec3, sums: Vec3) -> Active
     }
 }
 
-fn remains(active: bool, sum: f64, bound: f64) -> bool
+fn stays_active(active: bool, sum: f64, bound: f64) -> bool
     ensures { λ r. ⌜ r ≡ (active && not (le sum bound)) ⌝ }
 {
     if active { !(sum <= bound) } else { false }
 }
 
 // The components that are not down to their bound.
-pub(crate) fn remaining(bound: Vec3, active: Active, sums: Vec3) -> Active
-    ensures { λ r. ⌜ r ≡ remainingOf bound active sums ⌝ }
+pub(crate) fn stay_active(bound: Vec3, active: Active, sums: Vec3) -> Active
+    ensures { λ r. ⌜ r ≡ staysActive bound active sums ⌝ }
 {
     Active {
-        x: remains(active.x, sums.x, bound.x),
-        y: remains(active.y, sums.y, bound.y),
-        z: remains(active.z, sums.z, bound.z),
+        x: stays_active(active.x, sums.x, bound.x),
+        y: stays_active(active.y, sums.y, bound.y),
+        z: stays_active(active.z, sums.z, bound.z),
     }
 }
 
 // ---- refusals 11, 12 and 13
 
-fn flat_one(active: bool, old: f64, curvature: f64) -> bool
+fn bad_curvature_one(active: bool, old: f64, curvature: f64) -> bool
     ensures { λ r. ⌜ r ≡ (active && (not (finite curvature) || le curvature (mul binary64 epsilon (magnitude old)))) ⌝ }
 {
     if !active {
@@ -122,17 +123,17 @@ fn flat_one(active: bool, old: f64, curvature: f64) -> bool
 }
 
 // The lowest active component whose curvature is not finite, or at most 2^-52 × size of old product.
-pub(crate) fn flat(active: Active, old: Vec3, curvature: Vec3) -> Place
-    ensures { λ r. ⌜ r ≡ component (flatAt active old curvature) ⌝ }
+pub(crate) fn find_bad_curvature(active: Active, old: Vec3, curvature: Vec3) -> Place
+    ensures { λ r. ⌜ r ≡ component (badCurvature active old curvature) ⌝ }
 {
     lowest(Active {
-        x: flat_one(active.x, old.x, curvature.x),
-        y: flat_one(active.y, old.y, curvature.y),
-        z: flat_one(active.z, old.z, curvature.z),
+        x: bad_curvature_one(active.x, old.x, curvature.x),
+        y: bad_curvature_one(active.y, old.y, curvature.y),
+        z: bad_curvature_one(active.z, old.z, curvature.z),
     })
 }
 
-fn broken_one(active: bool, old: f64, new: f64) -> bool
+fn bad_product_one(active: bool, old: f64, new: f64) -> bool
     ensures { λ r. ⌜ r ≡ (active && (not (finite new) || le old null)) ⌝ }
 {
     if !active {
@@ -145,17 +146,17 @@ fn broken_one(active: bool, old: f64, new: f64) -> bool
 }
 
 // The lowest active component whose new product is not finite, or whose old product is at or below 0.
-pub(crate) fn broken(active: Active, old: Vec3, new: Vec3) -> Place
-    ensures { λ r. ⌜ r ≡ component (brokenAt active old new) ⌝ }
+pub(crate) fn find_bad_product(active: Active, old: Vec3, new: Vec3) -> Place
+    ensures { λ r. ⌜ r ≡ component (badProduct active old new) ⌝ }
 {
     lowest(Active {
-        x: broken_one(active.x, old.x, new.x),
-        y: broken_one(active.y, old.y, new.y),
-        z: broken_one(active.z, old.z, new.z),
+        x: bad_product_one(active.x, old.x, new.x),
+        y: bad_product_one(active.y, old.y, new.y),
+        z: bad_product_one(active.z, old.z, new.z),
     })
 }
 
-fn unfit_one(allowed: f64, residual: f64) -> bool
+fn bad_residual_one(allowed: f64, residual: f64) -> bool
     ensures { λ r. ⌜ r ≡ (not (finite residual) || lt allowed residual) ⌝ }
 {
     if !is_finite(residual) {
@@ -165,13 +166,13 @@ fn unfit_one(allowed: f64, residual: f64) -> bool
 }
 
 // The lowest component whose residual is not finite or above the allowed.
-pub(crate) fn unfit(allowed: Vec3, residual: Vec3) -> Place
-    ensures { λ r. ⌜ r ≡ component (unfitAt allowed residual) ⌝ }
+pub(crate) fn find_bad_residual(allowed: Vec3, residual: Vec3) -> Place
+    ensures { λ r. ⌜ r ≡ component (badResidual allowed residual) ⌝ }
 {
     lowest(Active {
-        x: unfit_one(allowed.x, residual.x),
-        y: unfit_one(allowed.y, residual.y),
-        z: unfit_one(allowed.z, residual.z),
+        x: bad_residual_one(allowed.x, residual.x),
+        y: bad_residual_one(allowed.y, residual.y),
+        z: bad_residual_one(allowed.z, residual.z),
     })
 }
 
@@ -207,19 +208,19 @@ pub(crate) fn stepped(adds: bool, active: Active, alpha: Vec3, v: Vec3, w: Vec3)
     }
 }
 
-fn renew_one(active: bool, beta: f64, z: f64, p: f64) -> f64
+fn search_one(active: bool, beta: f64, z: f64, p: f64) -> f64
     ensures { λ r. ⌜ r ≡ cond active (add binary64 z (mul binary64 beta p)) null ⌝ }
 {
     if active { z + beta * p } else { 0.0 }
 }
 
 // z + beta × p in the active components, 0 in the others.
-pub(crate) fn renewed(active: Active, beta: Vec3, z: Vec3, p: Vec3) -> Vec3
-    ensures { λ r. ⌜ r ≡ renewedOf active beta z p ⌝ }
+pub(crate) fn search_step(active: Active, beta: Vec3, z: Vec3, p: Vec3) -> Vec3
+    ensures { λ r. ⌜ r ≡ searchStep active beta z p ⌝ }
 {
     Vec3 {
-        x: renew_one(active.x, beta.x, z.x, p.x),
-        y: renew_one(active.y, beta.y, z.y, p.y),
-        z: renew_one(active.z, beta.z, z.z, p.z),
+        x: search_one(active.x, beta.x, z.x, p.x),
+        y: search_one(active.y, beta.y, z.y, p.y),
+        z: search_one(active.z, beta.z, z.z, p.z),
     }
 }

@@ -1,14 +1,16 @@
 // Fields of n vectors in the work buffer, one vector for each camera.
 use crate::Active;
-use crate::components::renewed;
+use crate::components::search_step;
 use crate::components::stepped;
 use double::is_finite;
 use field::Place;
 use field::Vec3;
+use field::anchored;
 use field::get3;
 use field::put3;
-use operator::anchored;
-use operator::zero;
+use field::zero;
+use network::Shape;
+use system::get_term;
 ghost use mathlib.Core.Path.{_≡_};
 ghost use mathlib.Core.Bool.{not, _&&_, _||_};
 ghost use Prim.Native.Nat.{_+_, _*_, _<_, _≤_};
@@ -21,10 +23,10 @@ ghost use Rattle.field.specs.Count.{lowest};
 ghost use Rattle.field.specs.Buffer.{load, store, vector};
 ghost use Rattle.system.specs.Work.{term};
 ghost use Rattle.iterative.specs.Problem.{times as products, dotStep, fieldDot};
-ghost use Rattle.iterative.specs.Method.{zeros, preconditioned, advanced, searching, difference, badDiagonal};
-ghost use Rattle.operator.specs.Posed.{Ordered};
+ghost use Rattle.iterative.specs.Method.{zeros, preconditioned, steppedField, searchField, difference, badDiagonal};
+ghost use Rattle.operator.specs.inner.Applied.{Ordered};
 ghost use Rattle.iterative.specs.Reduced.{diagonalOf, rightOf};
-ghost use Rattle.iterative.specs.Solver.{signed};
+ghost use Rattle.iterative.specs.inner.Solver.{signed};
 
 // The products on each axis.
 fn times(a: Vec3, b: Vec3) -> Vec3
@@ -140,7 +142,7 @@ pub(crate) fn precondition(
 }
 
 // The field at `into` stepped along the field at `along`, but for the anchor. Returned is its dot with itself, which rides on the pass.
-pub(crate) fn advance(
+pub(crate) fn step_field(
     work: &mut [f64],
     n: usize,
     anchor: usize,
@@ -151,8 +153,8 @@ pub(crate) fn advance(
     along: usize,
 ) -> Vec3
     requires { ⌜ Ordered n into along (length (now work)) ⌝ }
-    ensures { λ r. ⌜ now (work .exit) ≡ store vector (now (work .entry)) into (advanced n anchor (signed adds) active alpha (load vector (now (work .entry)) into n) (load vector (now (work .entry)) along n)) ⌝ }
-    ensures { λ r. ⌜ r ≡ fieldDot n anchor (advanced n anchor (signed adds) active alpha (load vector (now (work .entry)) into n) (load vector (now (work .entry)) along n)) (advanced n anchor (signed adds) active alpha (load vector (now (work .entry)) into n) (load vector (now (work .entry)) along n)) ⌝ }
+    ensures { λ r. ⌜ now (work .exit) ≡ store vector (now (work .entry)) into (steppedField n anchor (signed adds) active alpha (load vector (now (work .entry)) into n) (load vector (now (work .entry)) along n)) ⌝ }
+    ensures { λ r. ⌜ r ≡ fieldDot n anchor (steppedField n anchor (signed adds) active alpha (load vector (now (work .entry)) into n) (load vector (now (work .entry)) along n)) (steppedField n anchor (signed adds) active alpha (load vector (now (work .entry)) into n) (load vector (now (work .entry)) along n)) ⌝ }
 {
     let mut sum = zero();
     let mut i = 0usize;
@@ -166,8 +168,8 @@ pub(crate) fn advance(
     sum
 }
 
-// The search vector at `into`, renewed along the field at `from`.
-pub(crate) fn renew(
+// The search vector at `into`, search_step along the field at `from`.
+pub(crate) fn update_search(
     work: &mut [f64],
     n: usize,
     active: Active,
@@ -176,12 +178,12 @@ pub(crate) fn renew(
     into: usize,
 )
     requires { ⌜ Ordered n from into (length (now work)) ⌝ }
-    ensures { λ r. ⌜ now (work .exit) ≡ store vector (now (work .entry)) into (searching n active beta (load vector (now (work .entry)) from n) (load vector (now (work .entry)) into n)) ⌝ }
+    ensures { λ r. ⌜ now (work .exit) ≡ store vector (now (work .entry)) into (searchField n active beta (load vector (now (work .entry)) from n) (load vector (now (work .entry)) into n)) ⌝ }
 {
     let mut i = 0usize;
     while i < n {
         let z = get3(work, from + 3 * i);
-        let v = renewed(active, beta, z, get3(work, into + 3 * i));
+        let v = search_step(active, beta, z, get3(work, into + 3 * i));
         put3(work, into + 3 * i, v);
         i += 1;
     }

@@ -18,7 +18,7 @@ use Rattle.field.proofs.Counting.{length-field, getD-field, upto-ext, upto-inva
 use Rattle.double.proofs.Finite.{finite-add, finite-sub, finite-mul}
 use Rattle.network.specs.Network.{rows, rowAt, Links, spanOf, linksOf}
 use Rattle.system.specs.System.{tiny, Weights, ridge, weightsOf}
-use Rattle.operator.specs.Operator.{Change, changed, ridgeAt, gains, loses, times, meanStep, ridged, bearingStep, listStep, spanPass, pointStep, directionStep, reduced, reducedBy}
+use Rattle.operator.specs.Operator.{Change, changed, ridgeEntry, gains, loses, times, meanStep, ridged, bearingStep, listStep, spanPass, pointStep, directionStep, reduced, reducedBy}
 use Rattle.network.specs.declared.Span.{Span}
 use Rattle.network.specs.inner.Sound.{LinksSound}
 
@@ -110,14 +110,13 @@ module _ (n a : ℕ) where
 
 module _ (L : Links) (w : Weights) (a : ℕ) (x : List Vec3) where
   pub by-length : length (reducedBy L w a x) ≡ L .shape .cameras
-  unfolding ridged
   by-length = reduced-keeps L w a x _ (length-kept a) ∙ length-field _ _
 
   pub by-anchor : a < L .shape .cameras → at (reducedBy L w a x) a ≡ origin
-  unfolding ridged
+  unfolding ridgeEntry
   by-anchor h =
       reduced-keeps L w a x _ (view-kept a (λ y. at y a) (λ op. anchor-unchanged op a))
-      ∙ getD-field _ (λ i. ridgeAt a i (at x i)) a origin h
+      ∙ getD-field _ (ridgeEntry a x) a origin h
       ∙ rw (eq-eqb a a refl)
 
 -- ---- an entry that is not finite
@@ -170,9 +169,9 @@ finite-kept k i a = record {
 }
 
 ridged-finite : (n a : ℕ) (x : List Vec3) (k : Axis) (i : ℕ) → i < n → (i ≡ a → ⊥) → FiniteAt k i (ridged n a x) → FiniteAt k i x
-unfolding ridged
+unfolding ridgeEntry
 ridged-finite n a x k i l d e =
-    let h = getD-field n (λ j. ridgeAt a j (at x j)) i origin l in
+    let h = getD-field n (ridgeEntry a x) i origin l in
     firm-scale k (at x i) ridge (sym (ap finite (ap (on k) (h ∙ rw (ne-eqb i a d)))) ∙ e)
 
 pub by-finite : (L : Links) (w : Weights) (a : ℕ) (x : List Vec3) (k : Axis) (i : ℕ) → i < L .shape .cameras → (i ≡ a → ⊥) → finite (on k (at (reducedBy L w a x) i)) ≡ true → finite (on k (at x i)) ≡ true

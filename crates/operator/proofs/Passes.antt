@@ -8,7 +8,7 @@ use native.Mathlib.Numerals.{add-one}
 use native.Mathlib.Omega.{arith}
 use borrow.Author.Tests.{eq-eqb, ne-eqb}
 use lib.ListN.{drop, getD, length}
-use Rattle.field.proofs.Fills.{Fill, fill, seen-prior}
+use Rattle.field.proofs.Fills.{fill-more, seen-prior}
 use lib.Ieee.{Float, lt}
 use Rattle.field.proofs.Buffers.{at-load, change-field, drop-store, length-load, store-load, through, vector-lawful}
 use Rattle.field.proofs.Counting.{length-field, upto-suc, upto-zero}
@@ -22,7 +22,7 @@ use Rattle.system.specs.System.{tiny}
 use Rattle.system.specs.Work.{effectiveAt, weightsAt}
 use Rattle.operator.proofs.OperatorLaws.{Sized, changed-length, sized-bearing, sized-direction, sized-point, sized-times}
 use Rattle.operator.proofs.Buffered.{weights-kept}
-use Rattle.operator.specs.Operator.{Change, bearingStep, changed, directionStep, listStep, meanStep, pointStep, reducedBy, ridgeAt, ridged, spanPass, times}
+use Rattle.operator.specs.Operator.{Change, bearingStep, changed, directionStep, listStep, meanStep, pointStep, reducedBy, ridgeAt, ridgeEntry, ridged, spanPass, times}
 use Rattle.operator.specs.inner.Applied.{FieldsIn, applied}
 use Rattle.network.specs.declared.Span.{Span}
 use Rattle.network.specs.inner.Sound.{EndsSound}
@@ -31,28 +31,15 @@ use Rattle.system.specs.inner.Formed.{weightsIn}
 -- ---- the ridge
 
 pub length-ridged : (n a : ℕ) (x : List Vec3) → length (ridged n a x) ≡ n
-unfolding ridged
 length-ridged n a x = length-field n _
 
-ridged-fill : (a : ℕ) (x : List Vec3) → Fill (λ i. ridged i a x) (λ i. ridgeAt a i (at x i))
-unfolding ridged
-ridged-fill a x = fill _
-
--- a pass over the cameras: where it begins, one camera more, where it ends
-module _ (n a from into : ℕ) (l : List Float) where
-  pub ridge-none : l ≡ store vector l into (ridged 0 a (load vector l from n))
-  ridge-none = ridged-fill a _ .none l into
-
-  pub ridge-more : (i : ℕ) (m w : List Float) → from + 3 * n ≤ into → i < n →
-      m ≡ store vector l into (ridged i a (load vector l from n)) →
-      w ≡ put vector m (into + 3 * i) (ridgeAt a i (get vector m (from + 3 * i))) →
-      w ≡ store vector l into (ridged (i + 1) a (load vector l from n))
-  ridge-more i m w b h e f =
-      let q : get vector m (from + 3 * i) ≡ at (load vector l from n) i = seen-prior l m into _ n i e h from b in
-      f ∙ ridged-fill a (load vector l from n) .more l into i m _ e (ap (ridgeAt a i) q)
-
-  pub ridge-ended : (i : ℕ) (w : List Float) → w ≡ store vector l into (ridged i a (load vector l from n)) → n ≤ i → i ≤ n → w ≡ store vector l into (ridged n a (load vector l from n))
-  ridge-ended i w e b c = let q : i ≡ n = omega arith in rw q at e
+-- one camera more
+pub ridge-more : (n a from into : ℕ) (l : List Float) (i : ℕ) (m w : List Float) → from + 3 * n ≤ into → i < n →
+    m ≡ store vector l into (ridged i a (load vector l from n)) →
+    w ≡ put vector m (into + 3 * i) (ridgeAt a i (get vector m (from + 3 * i))) →
+    w ≡ store vector l into (ridged (i + 1) a (load vector l from n))
+unfolding ridgeEntry
+ridge-more n a from into l i m w b h e f = fill-more _ l into i m w _ e (ap (ridgeAt a i) (seen-prior l m into _ n i e h from b)) f
 
 -- ---- one camera's vector changed
 

@@ -25,9 +25,12 @@ times f k w x y = upto (λ i. f i w x) k y
 abbrev pub ridgeAt : ℕ → ℕ → Vec3 → Vec3
 ridgeAt a i v = cond (eqb i a) origin (scale v ridge)
 
--- for each of n cameras
-unfoldable pub ridged : ℕ → ℕ → List Vec3 → List Vec3
-ridged n a x = field n (λ i. ridgeAt a i (at x i))
+-- for each of n cameras of the field x
+unfoldable pub ridgeEntry : ℕ → List Vec3 → ℕ → Vec3
+ridgeEntry a x i = ridgeAt a i (at x i)
+
+abbrev pub ridged : ℕ → ℕ → List Vec3 → List Vec3
+ridged n a x = field n (ridgeEntry a x)
 
 -- y with v added to (or subtracted from) camera c's entry, unless c is the anchor a
 unfoldable pub changed : (Vec3 → Vec3 → Vec3) → ℕ → ℕ → Vec3 → List Vec3 → List Vec3

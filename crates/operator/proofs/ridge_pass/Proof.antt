@@ -4,7 +4,8 @@ use native.Mathlib.Omega.{arith}
 use lib.ListN.{length}
 use Rattle.field.specs.Buffer.{load, store, vector}
 use Rattle.operator.specs.Operator.{ridged}
-use Rattle.operator.proofs.Passes.{ridge-none, ridge-more, ridge-ended}
+use Rattle.field.proofs.Fills.{fill-none, fill-ended}
+use Rattle.operator.proofs.Passes.{ridge-more}
 use borrow.Author.Needs.{needs}
 use Rattle.operator.proofs.ridge_pass.Statement.{statement}
 use Rattle.operator.proofs.ridge_pass.Tie as tie
@@ -21,10 +22,10 @@ ridge-pass-spec =
     (tie.spec
     Inv-loop
     μ-loop
-    (λ c. (omega arith, search ridge-none, refl))
+    (λ c. (omega arith, search fill-none, refl))
     (λ c κs. omega arith)
     (λ c. omega arith)
     (λ c. omega arith)
     (λ c. (omega arith, search (ridge-more, arith), omega arith))
     (λ c. c .before .loop .inv .2)
-    (λ c. search ridge-ended))
+    (λ c. search fill-ended))

@@ -1,0 +1,191 @@
+-- What the functions of the solve require of the lent buffer, what they make of it, and what they keep.
+use mathlib.Core.Path.{_≡_}
+use mathlib.Core.List.{List}
+use mathlib.Core.Bool.{Bool, cond, false, true}
+use Prim.Native.Nat.{ℕ, _≤_}
+use lib.ListN.{drop, length}
+use lib.Ieee.{Float, add, binary64, sub}
+use lib.Ieee.Scale.{finite}
+use Rattle.field.specs.Buffer.{load, vector}
+use Rattle.field.specs.Count.{upto}
+use Rattle.field.specs.declared.Place.{Place}
+use Rattle.field.specs.declared.Vec3.{Vec3}
+use Rattle.network.specs.Network.{Links}
+use Rattle.network.specs.inner.Sound.{ShapeSound}
+use Rattle.network.specs.declared.Shape.{Shape}
+use Rattle.system.specs.Work.{appliedAt, positionsAt, residualAt, rightAt, searchAt, term, weightsAt}
+use Rattle.system.specs.inner.Formed.{weightsIn}
+use Rattle.operator.specs.Operator.{reducedBy}
+use Rattle.iterative.specs.Method.{Ending, Run, State, accepted, allowed, any, badResidual, boundOf, closed, component, continued, ended, failed, flag, moved, next, preconditioned, redirect, refused, residualOf, round, running, solution, startsActive, step, zeros}
+use Rattle.iterative.specs.Problem.{Problem, fieldDot, mostRounds}
+use Rattle.iterative.specs.Reduced.{diagonalOf, problemBy, rightOf}
+use Rattle.iterative.specs.declared.Active.{Active}
+use Rattle.iterative.specs.declared.Outcome.{Outcome}
+use Rattle.iterative.specs.declared.Outcome.the-variants.{Failed as NotPlaced, Placed}
+use Rattle.iterative.specs.declared.Round.{Round}
+use Rattle.iterative.specs.declared.Step.{Step}
+use Rattle.iterative.specs.declared.Step.the-variants.{Ended, Failed, Running}
+
+-- ---- components
+
+-- plus or minus
+abbrev pub signed : Bool → Float → Float → Float
+signed true = add binary64
+signed false = sub binary64
+
+-- the lowest component whose flag is set
+abbrev pub lowestFlag : Active → Place
+lowestFlag a = component (λ k. flag k a)
+
+-- ---- what is required
+
+-- the buffer reaches past the six fields of n vectors
+pub record FieldsFit (s : Shape) (size : ℕ) : Type 0 where
+  pub shape : ShapeSound s
+  pub room : weightsAt s ≤ size
+
+-- ---- what stands in a buffer
+
+-- the square sums of the right side, and their bounds
+abbrev pub rightSums : Shape → ℕ → List Float → Vec3
+rightSums s a l = fieldDot (s .cameras) a (load vector l (rightAt s) (s .cameras)) (load vector l (rightAt s) (s .cameras))
+
+-- the system: its terms and its right side, with an operator
+abbrev pub problemWith : Shape → ℕ → List Float → (List Vec3 → List Vec3) → Problem
+problemWith s a l op = record {
+  cameras = s .cameras;
+  anchor = a;
+  diagonal = diagonalOf (load term l 0 (s .cameras));
+  right = load vector l (rightAt s) (s .cameras);
+  operator = op;
+}
+
+-- with the operator whose links are L and whose weights stand there too
+abbrev pub problemIn : Links → ℕ → List Float → Problem
+problemIn L a l = problemWith (L .shape) a l (reducedBy L (weightsIn (L .shape) l) a)
+
+-- the positions, and with them the fields that a round changes and the round's record
+abbrev pub positionsIn : Shape → List Float → List Vec3
+positionsIn s l = load vector l (positionsAt s) (s .cameras)
+
+abbrev pub stateIn : Shape → List Float → Round → State
+stateIn s l r = record {
+  positions = positionsIn s l;
+  residual = load vector l (residualAt s) (s .cameras);
+  search = load vector l (searchAt s) (s .cameras);
+  round = r;
+}
+
+-- a round's answer, with the fields as it leaves them
+abbrev pub runIn : Shape → List Float → Step → Run
+runIn s l (Failed k i) = failed k i
+runIn s l (Running r) = running (stateIn s l r)
+runIn s l (Ended r) = ended (stateIn s l r)
+
+-- ---- what is kept
+
+-- all but the six fields of n vectors
+pub record Outside (s : Shape) (l l' : List Float) : Type 0 where
+  pub terms : load term l' 0 (s .cameras) ≡ load term l 0 (s .cameras)
+  pub rest : drop (weightsAt s) l' ≡ drop (weightsAt s) l
+  pub size : length l' ≡ length l
+
+-- and the right side
+pub record SystemKept (s : Shape) (l l' : List Float) : Type 0 where
+  pub outside : Outside s l l'
+  pub right : load vector l' (rightAt s) (s .cameras) ≡ load vector l (rightAt s) (s .cameras)
+
+-- ---- what a round does to the buffer l, of which it makes l': the method's, whatever the operator is
+
+-- the run x, of the problem with any operator
+pub record Ran (s : Shape) (x : (List Vec3 → List Vec3) → Run) (l l' : List Float) (t : Step) : Type 0 where
+  pub run : (op : List Vec3 → List Vec3) → runIn s l' t ≡ x op
+  pub kept : SystemKept s l l'
+
+-- a new search vector
+abbrev pub redirectedBy : Shape → ℕ → List Float → Round → (List Vec3 → List Vec3) → Run
+redirectedBy s a l r op = redirect (problemWith s a l op) (stateIn s l r)
+
+-- on, where a component is active
+abbrev pub continuedBy : Shape → ℕ → List Float → Round → (List Vec3 → List Vec3) → Run
+continuedBy s a l r op = continued (problemWith s a l op) (any (r .active)) (stateIn s l r)
+
+-- the round once the system has been applied to the search vector
+abbrev pub steppedBy : Shape → ℕ → List Float → Round → (List Vec3 → List Vec3) → Run
+steppedBy s a l r op = step (problemWith s a l op) (stateIn s l r) (load vector l (appliedAt s) (s .cameras))
+
+-- the step along the search vector
+pub record Moved (s : Shape) (a : ℕ) (r : Round) (curvature : Vec3) (l l' : List Float) (t : Round) : Type 0 where
+  pub state : (op : List Vec3 → List Vec3) → stateIn s l' t ≡ moved (problemWith s a l op) (stateIn s l r) (load vector l (appliedAt s) (s .cameras)) curvature
+  pub kept : SystemKept s l l'
+
+-- a whole round of a problem
+pub record Rounded (s : Shape) (P : Problem) (r : Round) (l l' : List Float) (t : Step) : Type 0 where
+  pub run : runIn s l' t ≡ round P (stateIn s l r)
+  pub kept : SystemKept s l l'
+
+-- k rounds at most that follow a run
+unfoldable pub roundsFrom : Problem → ℕ → Run → Run
+roundsFrom P k x = upto (λ (_ : ℕ). next P) k x
+
+pub record Iterated (s : Shape) (P : Problem) (x : Run) (l l' : List Float) (t : Step) : Type 0 where
+  pub run : runIn s l' t ≡ roundsFrom P (mostRounds (s .cameras)) x
+  pub kept : SystemKept s l l'
+
+-- ---- the start
+
+-- a start, with an active component or none
+abbrev pub begun : State → Run
+begun s = cond (any (s .round .active)) (running s) (ended s)
+
+pub record Opened (s : Shape) (a : ℕ) (l l' : List Float) : Type 0 where
+  pub outside : Outside s l l'
+  pub right : load vector l' (rightAt s) (s .cameras) ≡ rightOf (s .cameras) a (load term l 0 (s .cameras))
+  pub positions : positionsIn s l' ≡ zeros (s .cameras)
+  pub residual : load vector l' (residualAt s) (s .cameras) ≡ rightOf (s .cameras) a (load term l 0 (s .cameras))
+  pub search : load vector l' (searchAt s) (s .cameras) ≡ preconditioned (s .cameras) a (diagonalOf (load term l 0 (s .cameras))) (rightOf (s .cameras) a (load term l 0 (s .cameras)))
+
+-- the first round's record, of the fields in the buffer and the right side's square sums
+abbrev pub firstRound : Shape → ℕ → List Float → Vec3 → Round
+firstRound s a l sums = record {
+  old = fieldDot (s .cameras) a (load vector l (residualAt s) (s .cameras)) (load vector l (searchAt s) (s .cameras));
+  active = startsActive (boundOf sums) sums;
+  count = 0;
+}
+
+abbrev pub diagonalNumber : Float → ℕ
+diagonalNumber d = cond (finite d) 10 9
+
+-- ---- the end
+
+-- the positions and the system are kept
+pub record PositionsKept (s : Shape) (l l' : List Float) : Type 0 where
+  pub kept : SystemKept s l l'
+  pub positions : positionsIn s l' ≡ positionsIn s l
+
+-- the residual worked out afresh
+pub record Settled (s : Shape) (P : Problem) (l l' : List Float) (v : Vec3) : Type 0 where
+  pub residual : v ≡ residualOf P (positionsIn s l)
+  pub kept : PositionsKept s l l'
+
+-- the final test
+pub record Tested (s : Shape) (P : Problem) (l l' : List Float) (r : Place) : Type 0 where
+  pub place : r ≡ component (badResidual (allowed P) (residualOf P (positionsIn s l)))
+  pub kept : PositionsKept s l l'
+
+-- the answer for each way in which the method can end
+abbrev pub answerOf : Ending → Outcome
+answerOf (accepted s) = Placed (s .round .count)
+answerOf (refused k i) = NotPlaced k i
+
+pub record Concluded (s : Shape) (P : Problem) (x : Run) (l l' : List Float) (o : Outcome) : Type 0 where
+  pub answer : o ≡ answerOf (closed P x)
+  pub kept : PositionsKept s l l'
+
+-- ---- the whole solve
+
+-- The answer is the method's; where it is accepted, the positions are too; and all but the six fields is kept.
+pub record IterativeSolved (s : Shape) (P : Problem) (l l' : List Float) (o : Outcome) : Type 0 where
+  pub answer : o ≡ answerOf (solution P)
+  pub positions : (t : State) → solution P ≡ accepted t → positionsIn s l' ≡ t .positions
+  pub outside : Outside s l l'
