@@ -15,9 +15,9 @@ use Rattle.field.proofs.Counting.{upto-suc, upto-ext}
 use Rattle.sqrt.specs.Root.{root}
 use Rattle.cholesky.specs.declared.Solve.{Solve}
 use Rattle.cholesky.specs.declared.Solve.the-variants.{Done, Stopped}
-use Rattle.cholesky.specs.Cholesky.{Result, done, stopped, ended, entry, innerStep, remainder, factorEntry, pivot}
-use Rattle.cholesky.specs.inner.Stages.{off, Outside, reduced, left, Reduces, Continues, Made, RowFinite, FactorCells, positive, Refuses}
-use Rattle.cholesky.specs.inner.Stages.{RowReady, RowDone, RowEnds, RowsReady, RowsDone, RowsEnd, RowFinished, RowsFinished}
+use Rattle.cholesky.specs.Cholesky.{done, stopped, ended, entry, innerStep, remainder, factorEntry, pivot}
+use Rattle.cholesky.specs.inner.Stages.{off, Outside, reduced, left, Reduces, Continues, Made, RowFinite, FactorCells, positive}
+use Rattle.cholesky.specs.inner.Stages.{RowReady, RowEnds, RowsReady, RowsDone, RowFinished, RowsFinished}
 use Rattle.cholesky.proofs.Places.{through}
 use Rattle.cholesky.proofs.Factored.{entry-step, pivot-step}
 use Rattle.cholesky.proofs.Lower.{entry-same, entry-other, left-same, fewer, stops-at-entry, stops-at-pivot}
@@ -80,14 +80,16 @@ module _ (d : ℕ) where
       pivot d i (set A (i * d + i) u) ≡ cond b (done (set A (i * d + i) (root binary64 v))) (stopped 15 i)
   restored-pivot i A u v b hl hi e f = pivot-step d i (set A (i * d + i) u) v b (e ∙ restored A i i u hl (omega arith) hi) f ∙ rw set-set refl
 
-  module _ (A : List Float) (i j from : ℕ) (hl : length A ≡ d * d) (hj : j < i) (hi : i < d) (v w : Float) (rem : Reduces d A i j from j v) (div-by : w ≡ entry d A j j) (b : Bool) (test : b ≡ finite (div binary64 v w)) where
+  module _ (A : List Float) (i j from : ℕ) (hl : length A ≡ d * d) (hj : j < i) (hi : i < d)
+      (v w : Float) (rem : Reduces d A i j from j v) (by : w ≡ entry d A j j) (b : Bool) (test : b ≡ finite (div binary64 v w)) where
     pub entry-done : (B : List Float) → b ≡ true → B ≡ set A (i * d + j) (div binary64 v w) → Continues d (factorEntry d i j) A i j from Done B
-    entry-done B t e = record { answer = λ u f. rw e (sym (restored-entry i j A u v w true hl hj hi (rem .value u f) div-by (sym test ∙ t))) }
+    entry-done B t e = record { answer = λ u f. rw e (sym (restored-entry i j A u v w true hl hj hi (rem .value u f) by (sym test ∙ t))) }
 
     pub entry-stopped : b ≡ false → Continues d (factorEntry d i j) A i j from (Stopped 16 i) A
-    entry-stopped t = record { answer = λ u f. sym (restored-entry i j A u v w false hl hj hi (rem .value u f) div-by (sym test ∙ t)) }
+    entry-stopped t = record { answer = λ u f. sym (restored-entry i j A u v w false hl hj hi (rem .value u f) by (sym test ∙ t)) }
 
-  module _ (A : List Float) (i from : ℕ) (hl : length A ≡ d * d) (hi : i < d) (v : Float) (rem : Reduces d A i i from i v) (b : Bool) (test : b ≡ (finite v && lt null v)) where
+  module _ (A : List Float) (i from : ℕ) (hl : length A ≡ d * d) (hi : i < d)
+      (v : Float) (rem : Reduces d A i i from i v) (b : Bool) (test : b ≡ (finite v && lt null v)) where
     pub pivot-done : (x : Float) (B : List Float) → b ≡ true → x ≡ root binary64 v → B ≡ set A (i * d + i) x → Continues d (pivot d i) A i i from Done B
     pivot-done x B t g e = record { answer = λ u f. rw (e, g) (sym (restored-pivot i A u v true hl hi (rem .value u f) (sym test ∙ t))) }
 
@@ -95,18 +97,18 @@ module _ (d : ℕ) where
     pivot-stopped t = record { answer = λ u f. sym (restored-pivot i A u v false hl hi (rem .value u f) (sym test ∙ t)) }
 
 -- what an answer tells of its test
-record Told (b : Bool) (r : Solve) (C D : List Float) (n i : ℕ) : Type 0 where
+record Answered (b : Bool) (r : Solve) (C D : List Float) (n i : ℕ) : Type 0 where
   done : r ≡ Done → (C ≡ D) × (b ≡ true)
   stopped : (k q : ℕ) → r ≡ Stopped k q → (k ≡ n) × (q ≡ i) × (b ≡ false)
 
 pub never : {P : Type 0} (r : Solve) (k q : ℕ) → r ≡ Done → r ≡ Stopped k q → P
 never r k q e f = let z : _≡_ {A = ℕ} 0 1 = cc in absurd (omega arith)
 
-told : (b : Bool) (r : Solve) (C D : List Float) (n i : ℕ) → ended r C ≡ cond b (done D) (stopped n i) → Told b r C D n i
-told true Done C D n i e = record { done = λ f. (cc, refl); stopped = λ k q f. never Done k q refl f }
-told true (Stopped k q) C D n i e = let z : _≡_ {A = ℕ} 0 1 = cc e in absurd (omega arith)
-told false Done C D n i e = let z : _≡_ {A = ℕ} 0 1 = cc e in absurd (omega arith)
-told false (Stopped k q) C D n i e = record { done = λ f. never (Stopped k q) k q f refl; stopped = λ k′ q′ f. (cc, cc, refl) }
+answered : (b : Bool) (r : Solve) (C D : List Float) (n i : ℕ) → ended r C ≡ cond b (done D) (stopped n i) → Answered b r C D n i
+answered true Done C D n i e = record { done = λ f. (cc, refl); stopped = λ k q f. never Done k q refl f }
+answered true (Stopped k q) C D n i e = let z : _≡_ {A = ℕ} 0 1 = cc e in absurd (omega arith)
+answered false Done C D n i e = let z : _≡_ {A = ℕ} 0 1 = cc e in absurd (omega arith)
+answered false (Stopped k q) C D n i e = record { done = λ f. never (Stopped k q) k q f refl; stopped = λ k′ q′ f. (cc, cc, refl) }
 
 -- ---- a row: B is the matrix before the cell in column j
 
@@ -129,16 +131,20 @@ module _ (d : ℕ) (s l : List Float) where
     cell-left : j ≤ i → entry d B i j ≡ left d s B i j from
     cell-left hj = w .rest j (omega arith) hj ∙ row-left B i from j from w hf hj
 
-    entry-told : j < i → Continues d (factorEntry d i j) B i j from r C → Told (finite (entry d l i j)) r C (set B (i * d + j) (entry d l i j)) 16 i
-    entry-told hj f =
+    entry-answered : j < i → Continues d (factorEntry d i j) B i j from r C → Answered (finite (entry d l i j)) r C (set B (i * d + j) (entry d l i j)) 16 i
+    entry-answered hj f =
         let e = law .quotients i j hj hi in
-        told _ r C _ 16 i
+        answered _ r C _ 16 i
         (f .answer (entry d s i j) (cell-left (omega arith))
-        ∙ rw e (restored-entry d i j B (entry d s i j) (left d s l i j j) (entry d l j j) _ (w .size) hj hi (row-left B i from j j w (omega arith) (omega arith)) (sym (w .above j j hj (omega arith))) refl))
+        ∙ rw e (
+        restored-entry d i j B (entry d s i j) (left d s l i j j) (entry d l j j) _ (w .size) hj hi
+        (row-left B i from j j w (omega arith) (omega arith))
+        (sym (w .above j j hj (omega arith)))
+        refl))
 
-    pivot-told : j ≡ i → Continues d (pivot d i) B i i from r C → Told (positive d s l i) r C (set B (i * d + i) (entry d l i i)) 15 i
-    pivot-told e f =
-        told _ r C _ 15 i
+    pivot-answered : j ≡ i → Continues d (pivot d i) B i i from r C → Answered (positive d s l i) r C (set B (i * d + i) (entry d l i i)) 15 i
+    pivot-answered e f =
+        answered _ r C _ 15 i
         (f .answer (entry d s i i) (rw e at (cell-left (omega arith)))
         ∙ rw (law .roots i hi) (restored-pivot d i B (entry d s i i) (left d s l i i i) _ (w .size) hi (rw e at (row-left B i from j j w (omega arith) (omega arith))) refl))
 
@@ -148,7 +154,7 @@ module _ (d : ℕ) (s l : List Float) where
     entries : RowFinite d l i j
     rest : Outside d (λ (m c : ℕ). (m ≡ i) × (c ≤ i)) A B
 
-  pub finite-more : (i j : ℕ) → RowFinite d l i j → finite (entry d l i j) ≡ true → RowFinite d l i (j + 1)
+  finite-more : (i j : ℕ) → RowFinite d l i j → finite (entry d l i j) ≡ true → RowFinite d l i (j + 1)
   finite-more i j h t c hc = through _ j h t c (omega arith)
 
   -- C is B with column j made
@@ -201,7 +207,7 @@ module _ (d : ℕ) where
   row-more A B C i from j r h f t hf hj hi = record {
     made = λ s l y.
         let p = h .made s l y in
-        let q = entry-told d s l B C i from j r (y .law) (p .row) hf hi hj f .done t in
+        let q = entry-answered d s l B C i from j r (y .law) (p .row) hf hi hj f .done t in
         cell-more d s l A B C i from j p (q .0) (omega arith) hi (q .1) hj;
   }
 
@@ -216,7 +222,7 @@ module _ (d : ℕ) where
   row-stopped A B C i from j r k v h f t hf hj hi = record {
     ends = λ s l y.
         let p = h .made s l y in
-        let q = entry-told d s l B C i from j r (y .law) (p .row) hf hi hj f in
+        let q = entry-answered d s l B C i from j r (y .law) (p .row) hf hi hj f in
         record {
           done = λ z. never r k v z t;
           stops = λ n v z. let w = q .stopped n v z in rw (w .0, w .1) (stops-at-entry d s l (y .size) (y .law) i j (y .passed) hi hj (p .entries) (w .2));
@@ -235,7 +241,7 @@ module _ (d : ℕ) where
     ends = λ s l y.
         let e : j ≡ i = omega arith in
         let p = rw e at (h .made s l y) in
-        let q = pivot-told d s l B C i from i r (y .law) (p .row) (omega arith) hi refl f in
+        let q = pivot-answered d s l B C i from i r (y .law) (p .row) (omega arith) hi refl f in
         record {
           done = λ t.
               let w = q .done t in

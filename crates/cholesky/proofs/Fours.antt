@@ -21,14 +21,14 @@ use Rattle.cholesky.proofs.Places.{place-below, places-apart, through}
 
 -- ---- lanes
 
-pub each-lane : (P : ℕ → Type 0) → P 0 → P 1 → P 2 → P 3 → (k : ℕ) → k < 4 → P k
+each-lane : (P : ℕ → Type 0) → P 0 → P 1 → P 2 → P 3 → (k : ℕ) → k < 4 → P k
 each-lane P a b c e = below-more P 3 (below-more P 2 (below-more P 1 (below-more P 0 (below-none P) a) b) c) e
 
 -- two fours that agree in each lane are equal
-pub four-ext : (x y : Four) → ((k : ℕ) → k < 4 → lane k x ≡ lane k y) → x ≡ y
+four-ext : (x y : Four) → ((k : ℕ) → k < 4 → lane k x ≡ lane k y) → x ≡ y
 four-ext x y h = λ i. record { first = h 0 (omega arith) i; second = h 1 (omega arith) i; third = h 2 (omega arith) i; fourth = h 3 (omega arith) i }
 
-pub lane-packed : (p : List Float) (t k : ℕ) → k < 4 → lane k (packed p t) ≡ getD p (256 * k + t) nan
+lane-packed : (p : List Float) (t k : ℕ) → k < 4 → lane k (packed p t) ≡ getD p (256 * k + t) nan
 unfolding packed
 lane-packed p t = each-lane _ refl refl refl refl
 
@@ -38,7 +38,7 @@ lane-four d A i j = each-lane _ refl refl refl refl
 
 -- ---- tests of several numbers
 
-pub all-true : (p : ℕ → Bool) (n : ℕ) → all p n ≡ true → (k : ℕ) → k < n → p k ≡ true
+all-true : (p : ℕ → Bool) (n : ℕ) → all p n ≡ true → (k : ℕ) → k < n → p k ≡ true
 unfolding all
 all-true p zero e k h = absurd (omega arith)
 all-true p (suc n) e k h = let b = both-true (all p n) (p n) e in through _ n (all-true p n (b .0)) (b .1) k (omega arith)
@@ -47,7 +47,7 @@ all-true p (suc n) e k h = let b = both-true (all p n) (p n) e in through _ n (a
 abbrev pub Fails : (ℕ → Bool) → ℕ → Type 0
 Fails p n = (k : ℕ) × (k < n) × (p k ≡ false) × ((o : ℕ) → o < k → p o ≡ true)
 
-pub all-false : (p : ℕ → Bool) (n : ℕ) → all p n ≡ false → Fails p n
+all-false : (p : ℕ → Bool) (n : ℕ) → all p n ≡ false → Fails p n
 unfolding all
 all-false p zero e = absurd (true≢false e)
 all-false p (suc n) e = go (all p n) refl (λ q. all-false p n q)
@@ -91,9 +91,6 @@ module _ (p : List Float) (t : ℕ) (x : Four) (hp : length p ≡ 1024) (ht : t 
 
   pub packed-rest : (u : ℕ) → u < t → packed (packedWith p t x) u ≡ packed p u
   packed-rest u hu = four-ext _ _ (λ k h. lane-packed (packedWith p t x) u k h ∙ packs .rest (256 * k + u) (λ o b e. omega arith) ∙ sym (lane-packed p u k h))
-
-  pub packed-size : length (packedWith p t x) ≡ 1024
-  packed-size = packs .size ∙ hp
 
 -- ---- four neighbouring entries
 
@@ -156,7 +153,13 @@ module _ (d : ℕ) where
       Solves d A j v x
   unfolding upto
   quotients-done A j v x a₀ b₀ b₁ c₀ c₁ c₂ e₀ e₁ e₂ e₃ h₀ i₀ i₁ j₀ j₁ j₂ k₀ k₁ k₂ k₃ ha hb hc he =
-      record { quotients = each-lane _ (rw add-zero (rw h₀ at ha)) (rw add-zero (rw (i₀, i₁) at hb)) (rw add-zero (rw (j₀, j₁, j₂) at hc)) (rw add-zero (rw (k₀, k₁, k₂, k₃) at he)) }
+      record {
+        quotients = each-lane _
+            (rw add-zero (rw h₀ at ha))
+            (rw add-zero (rw (i₀, i₁) at hb))
+            (rw add-zero (rw (j₀, j₁, j₂) at hc))
+            (rw add-zero (rw (k₀, k₁, k₂, k₃) at he));
+      }
 
 -- ---- products and tests as the code makes them
 

@@ -1,21 +1,19 @@
 -- The factor's cells as numbers, whether or not a test stops the factor: l holds what each cell is of s, the matrix at entry. Assumes nothing.
 use mathlib.Core.Path.{_≡_, refl, sym, ap, ap₂, _∙_}
-use mathlib.Core.Logic.{_≢_, ⊎-elim}
+use mathlib.Core.Logic.{⊎-elim}
 use mathlib.Core.Bool.{true, false, cond}
 use mathlib.Core.List.{List}
 use Prim.Native.Nat.{ℕ, zero, suc, _+_, _*_, _≤_, _<_}
-use native.Mathlib.Nat.{eq-or-lt-of-le}
-use native.Mathlib.Numerals.{add-one}
 use native.Mathlib.Omega.{arith}
 use lib.ListN.{length, getD, set, length-set}
 use lib.Seq.{getD-set-same, getD-set-other, ext-getD}
 use lib.Ieee.{Float, nan, binary64, div}
 use lib.Ieee.Scale.{finite}
 use Rattle.field.specs.Count.{upto}
-use Rattle.field.proofs.Counting.{upto-zero, upto-suc, upto-ext}
+use Rattle.field.proofs.Counting.{upto-zero, upto-ext}
 use Rattle.sqrt.specs.Root.{root}
 use Rattle.cholesky.specs.Cholesky.{done, stopped, run, entry, innerStep, remainder, factorEntry, pivot, factorRow, factor}
-use Rattle.cholesky.specs.inner.Stages.{off, placed, reduced, left, Made, RowFinite, FactorCells, positive, Passed}
+use Rattle.cholesky.specs.inner.Stages.{off, placed, left, Made, RowFinite, FactorCells, positive, Passed}
 use Rattle.cholesky.proofs.Places.{place-below, place-is, places-apart, below-or-not, through}
 use Rattle.cholesky.proofs.Fours.{Placed, placed-is}
 use Rattle.cholesky.proofs.Runs.{run-none, run-more, run-stops}

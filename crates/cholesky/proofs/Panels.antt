@@ -15,9 +15,9 @@ use Rattle.field.proofs.Counting.{upto-add, upto-ext}
 use Rattle.cholesky.specs.declared.Four.{Four}
 use Rattle.cholesky.specs.declared.Solve.{Solve}
 use Rattle.cholesky.specs.declared.Solve.the-variants.{Done, Stopped}
-use Rattle.cholesky.specs.Cholesky.{done, stopped, ended, entry, innerStep, factor}
-use Rattle.cholesky.specs.inner.Stages.{lane, finite4, off, taken, four, stored, Solves, Updated, left, Made, FactorCells, Passed, Partial, Refused}
-use Rattle.cholesky.specs.inner.Stages.{RowsReady, RowsDone, RowsEnd, PanelReady, PanelMade, PanelEnds, OutsidePanel}
+use Rattle.cholesky.specs.Cholesky.{done, ended, entry, innerStep, factor}
+use Rattle.cholesky.specs.inner.Stages.{lane, finite4, off, taken, four, stored, Solves, left, Made, FactorCells, Refused}
+use Rattle.cholesky.specs.inner.Stages.{RowsDone, RowsEnd, PanelReady, PanelMade, PanelEnds, OutsidePanel}
 use Rattle.cholesky.specs.inner.Stages.{RowsFinished, RowSolved, PanelSolved, Eliminated, ColumnsEnd, Stage, Reached, Finishes}
 use Rattle.cholesky.proofs.Places.{below-or-not, through}
 use Rattle.cholesky.proofs.Fours.{lane-four, stored-size, stored-own, stored-rest, finite-lanes, infinite-lane}
@@ -59,7 +59,9 @@ module _ (d : ℕ) (s l : List Float) where
       let before = solved B i j v x law h w e hj hi n (omega arith) in
       through (λ (k : ℕ). lane k x ≡ entry d l i (j + k)) n before
       (e .quotients n (omega arith)
-      ∙ ap₂ (div binary64) (left-more i (j + n) j n (lane n v) (λ o. lane o x) (λ o. entry d B (j + n) (j + o)) (w n (omega arith)) before (λ o b. h (j + n) (j + o) (omega arith) (omega arith))) (h (j + n) (j + n) (omega arith) (omega arith))
+      ∙ ap₂ (div binary64)
+      (left-more i (j + n) j n (lane n v) (λ o. lane o x) (λ o. entry d B (j + n) (j + o)) (w n (omega arith)) before (λ o b. h (j + n) (j + o) (omega arith) (omega arith)))
+      (h (j + n) (j + n) (omega arith) (omega arith))
       ∙ sym (law .quotients i (j + n) (omega arith) hi))
       k (omega arith)
 
@@ -162,9 +164,6 @@ module _ (d : ℕ) where
 -- ---- four columns at a time
 
 module _ (d : ℕ) where
-  pub eliminated : (A C B : List Float) (j rows r : ℕ) → PanelSolved d A C j rows r → Updated d C B j (j + 4) r r → Eliminated d A B j rows r
-  eliminated A C B j rows r p u = record { low = p .low; high = p .high; solved = C; panel = p; update = u }
-
   pub reached-none : (s : List Float) → Reached d s s d 0
   reached-none s = record {
     stage = λ l law. record {
@@ -197,8 +196,8 @@ module _ (d : ℕ) (s B C E : List Float) (rows j n : ℕ) (r : Solve) (h : Reac
   block = let a = g .low in let b = g .high in rows-answer d s B C rows j (j + 4) r h f hs (omega arith) l law .done t
 
   -- what the pivots' rows leave as it is
-  kept : (m c : ℕ) → j + 4 ≤ m → c < d → entry d C m c ≡ entry d B m c
-  kept m c a b = block .rest m c (λ q. omega arith) b
+  unchanged : (m c : ℕ) → j + 4 ≤ m → c < d → entry d C m c ≡ entry d B m c
+  unchanged m c a b = block .rest m c (λ q. omega arith) b
 
   panel-end : PanelEnds d s l (g .solved) j rows n
   panel-end =
@@ -207,7 +206,7 @@ module _ (d : ℕ) (s B C E : List Float) (rows j n : ℕ) (r : Solve) (h : Reac
         law = law;
         passed = stage .passed;
         pivots = block .made;
-        below = λ m c a b e k. kept m c a (omega arith) ∙ stage .partial .rest m c b (omega arith) e;
+        below = λ m c a b e k. unchanged m c a (omega arith) ∙ stage .partial .rest m c b (omega arith) e;
       })
 
   -- D's cells outside the panel
@@ -222,7 +221,7 @@ module _ (d : ℕ) (s B C E : List Float) (rows j n : ℕ) (r : Solve) (h : Reac
       (λ (u : m < j + 4). outside m c (λ q. omega arith) (omega arith) ∙ block .made m c u k)
       (λ (u : j + 4 ≤ m).
       ⊎-elim
-      (λ (v : c < j). outside m c (λ q. omega arith) (omega arith) ∙ kept m c u (omega arith) ∙ stage .partial .made m c (omega arith) k v)
+      (λ (v : c < j). outside m c (λ q. omega arith) (omega arith) ∙ unchanged m c u (omega arith) ∙ stage .partial .made m c (omega arith) k v)
       (λ (v : j ≤ c). panel-end .made m c u a v b .0)
       (below-or-not c j))
       (below-or-not m (j + 4))
@@ -244,7 +243,7 @@ module _ (d : ℕ) (s B C E : List Float) (rows j n : ℕ) (r : Solve) (h : Reac
       let high = g .high in
       g .update .cells m c b (omega arith) k a
       ∙ taken-off d s l (g .solved) m c j
-      (outside m c (λ q. omega arith) (omega arith) ∙ kept m c (omega arith) (omega arith) ∙ stage .partial .rest m c (omega arith) k (omega arith))
+      (outside m c (λ q. omega arith) (omega arith) ∙ unchanged m c (omega arith) (omega arith) ∙ stage .partial .rest m c (omega arith) k (omega arith))
       (λ o q. made m o a (omega arith) q)
       (λ o q. made c o (omega arith) (omega arith) q)
 

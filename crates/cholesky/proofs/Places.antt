@@ -14,14 +14,14 @@ place-below d i j h k =
     omega arith
 
 -- an entry of a row stands before each of a later row
-pub row-below : (d i j k : ℕ) → j < i → k < d → j * d + k < i * d
+row-below : (d i j k : ℕ) → j < i → k < d → j * d + k < i * d
 row-below d i j k h l =
     let e : suc j * d ≤ i * d = mul-le-mul-right d h in
     let f : suc j * d ≡ j * d + d = suc-mul j d in
     omega arith
 
 -- entries of different rows have different places
-pub rows-apart : (d i j m k : ℕ) → i ≢ m → j < d → k < d → i * d + j ≢ m * d + k
+rows-apart : (d i j m k : ℕ) → i ≢ m → j < d → k < d → i * d + j ≢ m * d + k
 rows-apart d i j m k h hj hk e = go (decLt i m)
   where
     go : Dec (i < m) → ⊥

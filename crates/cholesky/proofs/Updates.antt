@@ -2,7 +2,7 @@
 use mathlib.Core.Path.{_≡_, refl, sym, ap, _∙_}
 use mathlib.Core.Logic.{⊎-elim}
 use mathlib.Core.List.{List}
-use Prim.Native.Nat.{ℕ, suc, _+_, _-_, _*_, _/_, _%_, _≤_, _<_, min}
+use Prim.Native.Nat.{ℕ, _+_, _-_, _*_, _/_, _%_, _≤_, _<_, min}
 use native.Mathlib.Omega.{arith}
 use lib.ListN.{length, set, length-set}
 use lib.Ieee.{Float}
@@ -140,7 +140,7 @@ module _ (d : ℕ) where
   pub pair-none : (A : List Float) (i from : ℕ) (x y : Four) (p : List Float) → PairUpdated d A A i from 0 0 x y p
   pair-none A i from x y p = record { upper = A; first = row-none A i from x p; second = row-none A (i + 1) from y p }
 
-  pub pair-more : (A B C : List Float) (i from t : ℕ) (x y : Four) (p : List Float) →
+  pair-more : (A B C : List Float) (i from t : ℕ) (x y : Four) (p : List Float) →
       PairUpdated d A B i from t t x y p →
       C ≡ withCell d (withCell d B p i from t x) p (i + 1) from t y →
       length A ≡ d * d →

@@ -4,7 +4,7 @@
 use Prim.Native.Nat.{ℕ, zero, suc, _+_, _-_, _*_}
 use mathlib.Core.Path.{_≡_}
 use mathlib.Core.List.{List}
-use mathlib.Core.Bool.{Bool, cond, _&&_}
+use mathlib.Core.Bool.{cond, _&&_}
 use lib.ListN.{getD, set, take}
 use lib.Ieee.{Float, nan, binary64, sub, mul, div, lt}
 use lib.Ieee.Scale.{finite}

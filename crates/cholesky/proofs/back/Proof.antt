@@ -1,5 +1,5 @@
 use Prim.Native.Nat.{_-_, _≤_}
-use Rattle.cholesky.proofs.Substitution.{Back, back-starts, turn-done, turn-stopped, turns-ended}
+use Rattle.cholesky.proofs.Substitution.{BackRows, back-rows-ended, back-rows-more, back-rows-none, back-rows-stopped}
 use borrow.Author.Needs.{needs}
 use lib.ListN.{length}
 use mathlib.Core.Path.{_≡_, refl}
@@ -8,7 +8,7 @@ use Rattle.cholesky.proofs.back.Statement.{statement}
 use Rattle.cholesky.proofs.back.Tie as tie
 
 abbrev Inv-loop : tie.InvT-loop
-Inv-loop s₀ d t₀ s t = (t ≤ d) × Back d s₀ s t × (length s ≡ length s₀)
+Inv-loop s₀ d t₀ s t = (t ≤ d) × BackRows d s₀ s t × (length s ≡ length s₀)
 
 abbrev μ-loop : tie.MeasureT-loop
 μ-loop s₀ d t₀ s t = d - t
@@ -19,16 +19,16 @@ back-spec =
     (tie.spec
     Inv-loop
     μ-loop
-    (λ c. (omega arith, search back-starts, refl))
+    (λ c. (omega arith, search back-rows-none, refl))
     (λ c. omega arith)
     (λ c. omega arith)
     (λ c κs. omega arith)
     (λ c. search needs)
     (λ c. search needs)
     (λ c. omega arith)
-    (λ c. search turn-stopped)
+    (λ c. search back-rows-stopped)
     (λ c. omega arith)
     (λ c. omega arith)
-    (λ c. (omega arith, search turn-done, omega arith))
+    (λ c. (omega arith, search back-rows-more, omega arith))
     (λ c. omega arith)
-    (λ c. search turns-ended))
+    (λ c. search back-rows-ended))

@@ -1,4 +1,4 @@
-use Rattle.cholesky.proofs.Substitution.{row-done, row-stopped}
+use Rattle.cholesky.proofs.Substitution.{back-row-done, back-row-stopped}
 use borrow.Author.Needs.{needs}
 use Rattle.cholesky.proofs.back_row.Statement.{statement}
 use Rattle.cholesky.proofs.back_row.Tie as tie
@@ -14,6 +14,6 @@ back-row-spec =
     (λ c. search needs)
     (λ c κs. search needs)
     (λ c. search needs)
-    (λ c. search row-done)
+    (λ c. search back-row-done)
     (λ c. search needs)
-    (λ c. search row-stopped))
+    (λ c. search back-row-stopped))

@@ -1,5 +1,5 @@
 use Prim.Native.Nat.{_*_, _-_, _<_, _≤_, suc}
-use Rattle.cholesky.proofs.Substitution.{back-ended, back-more, back-none}
+use Rattle.cholesky.proofs.Substitution.{back-vector-ended, back-vector-more, back-vector-none}
 use Rattle.cholesky.specs.Cholesky.{backStep}
 use Rattle.field.specs.Buffer.{load, vector}
 use Rattle.field.specs.Count.{upto}
@@ -26,11 +26,11 @@ back-vector-spec =
     (λ c. omega arith)
     (λ c κs. omega arith)
     (λ c. omega arith)
-    (λ c. (omega arith, omega arith, search back-none))
+    (λ c. (omega arith, omega arith, search back-vector-none))
     (λ c κs. omega arith)
     (λ c. omega arith)
     (λ c. omega arith)
-    (λ c. (omega arith, omega arith, search back-more))
+    (λ c. (omega arith, omega arith, search back-vector-more))
     (λ c κs. omega arith)
     (λ c κs. omega arith)
-    (λ c. search back-ended))
+    (λ c. search back-vector-ended))

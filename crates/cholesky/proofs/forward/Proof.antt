@@ -1,5 +1,5 @@
 use Prim.Native.Nat.{_*_, _-_, _≤_}
-use Rattle.cholesky.proofs.Substitution.{rows-ended, rows-more, rows-none}
+use Rattle.cholesky.proofs.Substitution.{forward-rows-ended, forward-rows-more, forward-rows-none}
 use Rattle.cholesky.specs.Cholesky.{forwardRow}
 use Rattle.field.specs.Buffer.{load, store, vector}
 use Rattle.field.specs.Count.{upto}
@@ -21,7 +21,7 @@ forward-spec =
     (tie.spec
     Inv-loop
     μ-loop
-    (λ c. (omega arith, search rows-none, refl))
+    (λ c. (omega arith, search forward-rows-none, refl))
     (λ c κs. omega arith)
     (λ c. omega arith)
     (λ c. omega arith)
@@ -29,6 +29,6 @@ forward-spec =
     (λ c κs. omega arith)
     (λ c. omega arith)
     (λ c. omega arith)
-    (λ c. (omega arith, search rows-more, omega arith))
+    (λ c. (omega arith, search forward-rows-more, omega arith))
     (λ c. omega arith)
-    (λ c. search rows-ended))
+    (λ c. search forward-rows-ended))

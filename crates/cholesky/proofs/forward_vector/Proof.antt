@@ -1,5 +1,5 @@
 use Prim.Native.Nat.{_*_, _-_, _≤_}
-use Rattle.cholesky.proofs.Substitution.{forward-ended, forward-more, forward-none}
+use Rattle.cholesky.proofs.Substitution.{forward-vector-ended, forward-vector-more, forward-vector-none}
 use Rattle.cholesky.specs.Cholesky.{forwardStep}
 use Rattle.field.specs.Buffer.{load, vector}
 use Rattle.field.specs.Count.{upto}
@@ -25,11 +25,11 @@ forward-vector-spec =
     (λ c. omega arith)
     (λ c. omega arith)
     (λ c κs. omega arith)
-    (λ c. (omega arith, search forward-none))
+    (λ c. (omega arith, search forward-vector-none))
     (λ c κs. omega arith)
     (λ c. omega arith)
     (λ c. omega arith)
-    (λ c. (omega arith, search forward-more))
+    (λ c. (omega arith, search forward-vector-more))
     (λ c κs. omega arith)
     (λ c κs. omega arith)
-    (λ c. search forward-ended))
+    (λ c. search forward-vector-ended))

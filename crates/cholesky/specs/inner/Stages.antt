@@ -33,6 +33,7 @@ unfoldable pub all : (ℕ → Bool) → ℕ → Bool
 all p zero = true
 all p (suc n) = all p n && p n
 
+-- all four are finite
 unfoldable pub finite4 : Four → Bool
 finite4 x = all (λ k. finite (lane k x)) 4
 
@@ -266,13 +267,14 @@ module _ (d : ℕ) where
     pub panel : PanelSolved A solved j rows r
     pub update : Updated d solved B j (j + 4) r r
 
-  -- the columns before j of s are made in the rows before `rows` of B, and their products taken off there: rows from `rows` on are refused
+  -- B is s with the columns before j made in the rows before `rows`, and their products taken off there; row `rows` is refused unless one above it is
   pub record Stage (s l B : List Float) (rows j : ℕ) : Type 0 where
     pub passed : Passed d s l rows j
     pub partial : Partial d s l B rows j
     pub refused : rows < d → Refused d s l rows
     pub above : (m c : ℕ) → m < c → c < d → entry d B m c ≡ entry d s m c
 
+  -- so for every l that has the factor's cells
   pub record Reached (s B : List Float) (rows j : ℕ) : Type 0 where
     pub stage : (l : List Float) → FactorCells d s l → Stage s l B rows j
 
