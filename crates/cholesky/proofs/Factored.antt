@@ -1,6 +1,6 @@
--- The steps of the factor and of the substitutions, as code tells them. Assumes nothing.
+-- The steps of the factor, as code tells them. Assumes nothing.
 use mathlib.Core.Path.{_≡_, sym}
-use mathlib.Core.Bool.{Bool, true, false, _&&_}
+use mathlib.Core.Bool.{Bool, cond, _&&_}
 use mathlib.Core.List.{List}
 use Prim.Native.Nat.{ℕ, _+_, _*_, _<_}
 use lib.ListN.{set}
@@ -14,36 +14,32 @@ use Rattle.cholesky.specs.Cholesky.{Result, done, stopped, run, ended, e
 use Rattle.cholesky.proofs.Runs.{run-stops}
 
 module _ (d : ℕ) where
-  pub entry-done : (i j : ℕ) (A : List Float) (v w : Float) (b : Bool) → v ≡ remainder d A i j → w ≡ entry d A j j → b ≡ finite (div binary64 v w) → b ≡ true → done (set A (i * d + j) (div binary64 v w)) ≡ factorEntry d i j A
+  -- v is the remainder and w the pivot
+  pub entry-step : (i j : ℕ) (A : List Float) (v w : Float) (b : Bool) →
+      v ≡ remainder d A i j →
+      w ≡ entry d A j j →
+      finite (div binary64 v w) ≡ b →
+      factorEntry d i j A ≡ cond b (done (set A (i * d + j) (div binary64 v w))) (stopped 16 i)
   unfolding factorEntry
-  entry-done i j A v w b e g f t = rw (← e, ← g, ← f, t)
+  entry-step i j A v w b e g f = rw (← e, ← g, f)
 
-  pub entry-stops : (i j : ℕ) (A : List Float) (v w : Float) (b : Bool) → v ≡ remainder d A i j → w ≡ entry d A j j → b ≡ finite (div binary64 v w) → b ≡ false → stopped 16 i ≡ factorEntry d i j A
-  unfolding factorEntry
-  entry-stops i j A v w b e g f t = rw (← e, ← g, ← f, t)
-
-  pub pivot-done : (i : ℕ) (A : List Float) (v x : Float) (b : Bool) → v ≡ remainder d A i i → b ≡ finite v → b ≡ true → lt null v ≡ true → x ≡ root binary64 v → done (set A (i * d + i) x) ≡ pivot d i A
+  pub pivot-step : (i : ℕ) (A : List Float) (v : Float) (b : Bool) →
+      v ≡ remainder d A i i →
+      (finite v && lt null v) ≡ b →
+      pivot d i A ≡ cond b (done (set A (i * d + i) (root binary64 v))) (stopped 15 i)
   unfolding pivot
-  pivot-done i A v x b e f t u g = rw (← e, ← f, t, u, g)
-
-  pub pivot-wild : (i : ℕ) (A : List Float) (v : Float) (b : Bool) → v ≡ remainder d A i i → b ≡ finite v → b ≡ false → stopped 15 i ≡ pivot d i A
-  unfolding pivot
-  pivot-wild i A v b e f t = rw (← e, ← f, t)
-
-  pub pivot-low : (i : ℕ) (A : List Float) (v : Float) (b : Bool) → v ≡ remainder d A i i → b ≡ finite v → b ≡ true → lt null v ≡ false → stopped 15 i ≡ pivot d i A
-  unfolding pivot
-  pivot-low i A v b e f t u = rw (← e, ← f, t, u)
-
-  pub pivot-stops : (i : ℕ) (A : List Float) (v : Float) → v ≡ remainder d A i i → (finite v && lt null v) ≡ false → stopped 15 i ≡ pivot d i A
-  unfolding pivot
-  pivot-stops i A v e f = rw (← e, f)
+  pivot-step i A v b e f = rw (← e, f)
 
   -- a row: its entries in order, then its pivot
-  pub row-stops : (i j : ℕ) (A B : List Float) (k r : ℕ) → run (factorEntry d i) j A ≡ done B → factorEntry d i j B ≡ stopped k r → j < i → stopped k r ≡ factorRow d i A
+  pub row-stops : (i j : ℕ) (A B : List Float) (k r : ℕ) →
+      run (factorEntry d i) j A ≡ done B →
+      factorEntry d i j B ≡ stopped k r →
+      j < i →
+      factorRow d i A ≡ stopped k r
   unfolding factorRow
   row-stops i j A B k r e f h = rw (run-stops (factorEntry d i) j i A B k r e f h)
 
-  pub row-ends : (i : ℕ) (A B : List Float) → run (factorEntry d i) i A ≡ done B → pivot d i B ≡ factorRow d i A
+  pub row-ends : (i : ℕ) (A B : List Float) → run (factorEntry d i) i A ≡ done B → factorRow d i A ≡ pivot d i B
   unfolding factorRow
   row-ends i A B e = rw e
 

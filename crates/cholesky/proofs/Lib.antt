@@ -1,4 +1,5 @@
 pub mod Places
+pub mod Fours
 pub mod Runs
 pub mod Factored
 pub mod Lower

@@ -1,288 +1,341 @@
 -- The rows below four pivots, in the pivots' columns, and the whole factor, four columns at a time. Assumes nothing.
-use mathlib.Core.Path.{_≡_, refl, sym, ap, ap₂, subst, _∙_}
+use mathlib.Core.Path.{_≡_, refl, sym, ap, ap₂, _∙_}
 use mathlib.Core.Logic.{⊎-elim}
-use mathlib.Core.Bool.{Bool, true, false, not, _&&_}
+use mathlib.Core.Bool.{Bool, true, false, not}
 use mathlib.Core.List.{List}
-use Prim.Native.Nat.{ℕ, _+_, _*_, _≤_, _<_}
+use Prim.Native.Nat.{ℕ, zero, suc, _+_, _-_, _*_, _≤_, _<_}
 use native.Mathlib.Nat.{eq-or-lt-of-le}
 use native.Mathlib.Omega.{arith}
-use lib.ListN.{length, set, length-set}
+use borrow.Author.Tests.{not-true, not-false}
+use lib.ListN.{length}
 use lib.Ieee.{Float, binary64, div}
 use lib.Ieee.Scale.{finite}
+use Rattle.field.specs.Count.{upto}
+use Rattle.field.proofs.Counting.{upto-add, upto-ext}
 use Rattle.cholesky.specs.declared.Four.{Four}
 use Rattle.cholesky.specs.declared.Solve.{Solve}
 use Rattle.cholesky.specs.declared.Solve.the-variants.{Done, Stopped}
-use Rattle.cholesky.specs.Cholesky.{done, stopped, ended, entry, factor}
-use Rattle.cholesky.specs.Stages.{finite4, taken, four, Stands, stored, Solves, Updated, left, Made, Passes, Lawful, Sound, Holds, RowsReady, RowsEnd, PanelReady, PanelMade, PanelEnds, Refused, Beside}
-use Rattle.cholesky.proofs.Places.{below-or-not}
-use Rattle.cholesky.proofs.Lower.{entry-same, entry-other, product-more, left-none, stops-at-entry, ends}
-use Rattle.cholesky.proofs.Finished.{finite-more}
+use Rattle.cholesky.specs.Cholesky.{done, ended, entry, innerStep, factor}
+use Rattle.cholesky.specs.inner.Stages.{lane, finite4, off, taken, four, stored, Solves, left, Made, FactorCells, Refused}
+use Rattle.cholesky.specs.inner.Stages.{RowsDone, RowsEnd, PanelReady, PanelMade, PanelEnds, OutsidePanel}
+use Rattle.cholesky.specs.inner.Stages.{RowsFinished, RowSolved, PanelSolved, Eliminated, ColumnsEnd, Stage, Reached, Finishes}
+use Rattle.cholesky.proofs.Places.{below-or-not, through}
+use Rattle.cholesky.proofs.Fours.{lane-four, stored-size, stored-own, stored-rest, finite-lanes, infinite-lane}
+use Rattle.cholesky.proofs.Finished.{never}
+use Rattle.cholesky.proofs.Lower.{left-none, factor-cells, fewer, stops-at-entry, ends}
 
--- one of four neighbouring columns
-four-cases : (P : ℕ → Type 0) (j c : ℕ) → P j → P (j + 1) → P (j + 2) → P (j + 3) → j ≤ c → c < j + 4 → P c
-four-cases P j c p q r t h k =
-    ⊎-elim
-    (λ (e : j ≡ c). subst P e p)
-    (λ (b : j < c).
-    ⊎-elim
-    (λ (e : j + 1 ≡ c). subst P e q)
-    (λ (b′ : j + 1 < c).
-    ⊎-elim
-    (λ (e : j + 2 ≡ c). subst P e r)
-    (λ (b″ : j + 2 < c). let e : j + 3 ≡ c = omega arith in subst P e t)
-    (eq-or-lt-of-le {n = j + 2} {m = c} (omega arith)))
-    (eq-or-lt-of-le {n = j + 1} {m = c} (omega arith)))
-    (eq-or-lt-of-le h)
+-- ---- a row of the panel
 
-not-false : (b : Bool) → not b ≡ false → b ≡ true
-not-false true e = refl
-not-false false e = let z : _≡_ {A = ℕ} 0 1 = cc e in absurd (omega arith)
+module _ (d : ℕ) (A : List Float) (i j : ℕ) (v x : Four) (b : Bool) (e : v ≡ four d A i j) (f : Solves d A j v x) (g : b ≡ finite4 x) where
+  pub solved-done : (B : List Float) → b ≡ true → B ≡ stored d A i j x → RowSolved d A B i j true
+  solved-done B t h = record { x = x; solves = rw e at f; test = sym t ∙ g; result = h }
 
-not-true : (b : Bool) → not b ≡ true → b ≡ false
-not-true true e = let z : _≡_ {A = ℕ} 0 1 = cc e in absurd (omega arith)
-not-true false e = refl
+  pub solved-stopped : b ≡ false → RowSolved d A A i j false
+  solved-stopped t = record { x = x; solves = rw e at f; test = sym t ∙ g; result = refl }
 
-module _ (d : ℕ) where
-  stored-other : (A : List Float) (i j m c : ℕ) (x : Four) → ((m ≡ i) × (j ≤ c) × (c < j + 4) → ⊥) → j + 3 < d → c < d → entry d (stored d A i j x) m c ≡ entry d A m c
-  stored-other A i j m c x h hj hc =
-      let B = set A (i * d + j) (x .first) in
-      let C = set B (i * d + (j + 1)) (x .second) in
-      let D = set C (i * d + (j + 2)) (x .third) in
-      entry-other d D i (j + 3) m c (x .fourth) (λ q. h (q .0, omega arith, omega arith)) hj hc
-      ∙ entry-other d C i (j + 2) m c (x .third) (λ q. h (q .0, omega arith, omega arith)) (omega arith) hc
-      ∙ entry-other d B i (j + 1) m c (x .second) (λ q. h (q .0, omega arith, omega arith)) (omega arith) hc
-      ∙ entry-other d A i j m c (x .first) (λ q. h (q .0, omega arith, omega arith)) (omega arith) hc
-
-  stored-own : (A : List Float) (i j : ℕ) (x : Four) → length A ≡ d * d → j + 3 < d → i < d → (entry d (stored d A i j x) i j ≡ x .first) × (entry d (stored d A i j x) i (j + 1) ≡ x .second) × (entry d (stored d A i j x) i (j + 2) ≡ x .third) × (entry d (stored d A i j x) i (j + 3) ≡ x .fourth)
-  stored-own A i j x hl hj hi =
-      let B = set A (i * d + j) (x .first) in
-      let C = set B (i * d + (j + 1)) (x .second) in
-      let D = set C (i * d + (j + 2)) (x .third) in
-      let lB : length B ≡ d * d = length-set A (i * d + j) (x .first) ∙ hl in
-      let lC : length C ≡ d * d = length-set B (i * d + (j + 1)) (x .second) ∙ lB in
-      let lD : length D ≡ d * d = length-set C (i * d + (j + 2)) (x .third) ∙ lC in
-      let f : (c : ℕ) → c < j + 3 → entry d (stored d A i j x) i c ≡ entry d D i c = λ c h. entry-other d D i (j + 3) i c (x .fourth) (λ q. omega arith) hj (omega arith) in
-      let g : (c : ℕ) → c < j + 2 → entry d (stored d A i j x) i c ≡ entry d C i c = λ c h. f c (omega arith) ∙ entry-other d C i (j + 2) i c (x .third) (λ q. omega arith) (omega arith) (omega arith) in (
-        g j (omega arith) ∙ entry-other d B i (j + 1) i j (x .second) (λ q. omega arith) (omega arith) (omega arith) ∙ entry-same d A i j (x .first) hl hi (omega arith),
-        g (j + 1) (omega arith) ∙ entry-same d B i (j + 1) (x .second) lB hi (omega arith),
-        f (j + 2) (omega arith) ∙ entry-same d C i (j + 2) (x .third) lC hi (omega arith),
-        entry-same d D i (j + 3) (x .fourth) lD hi hj,
-      )
-
-  -- ---- the rows of a panel before i: B is A with these rows' four columns changed
-
-  pub beside-none : (A : List Float) (j i : ℕ) → Beside d A A j i
-  beside-none A j i = λ m c h k. refl
-
-  pub beside-more : (A B C : List Float) (j i : ℕ) (x : Four) → Beside d A B j i → C ≡ stored d B i j x → j + 4 ≤ i → i < d → Beside d A C j (i + 1)
-  beside-more A B C j i x h e hj hi = λ m c g hc.
-      rw e (stored-other B i j m c x (λ q. g (omega arith, omega arith, q .1, q .2)) (omega arith) hc ∙ h m c (λ q. g (q .0, omega arith, q .2, q .3)) hc)
-
+-- further products: those of the columns j to j + n - 1, after the first j
 module _ (d : ℕ) (s l : List Float) where
-  -- the four entries are l's
-  solved : (B : List Float) (i j : ℕ) (v x : Four) → Lawful d s l → Made d l B (j + 4) → (v .first ≡ left d s l i j j) × (v .second ≡ left d s l i (j + 1) j) × (v .third ≡ left d s l i (j + 2) j) × (v .fourth ≡ left d s l i (j + 3) j) → Solves d B j v x → j + 4 ≤ i → i < d → Stands d l i j x
-  solved B i j v x law h w e hj hi =
-      let k = j + 1 in
-      let n = j + 2 in
-      let m = j + 3 in
-      let ek : j + 1 + 1 ≡ n = omega arith in
-      let en : j + 2 + 1 ≡ m = omega arith in
-      let e0 : x .first ≡ entry d l i j = e .0 ∙ ap₂ (div binary64) (w .0) (h j j (omega arith) (omega arith)) ∙ sym (law .quotients i j (omega arith) hi) in
-      let p1 = product-more d l i k j (entry d s i k) _ _ _ (w .1) e0 (h k j (omega arith) (omega arith)) in
-      let e1 : x .second ≡ entry d l i k = e .1 ∙ ap₂ (div binary64) p1 (h k k (omega arith) (omega arith)) ∙ sym (law .quotients i k (omega arith) hi) in
-      let p2 = product-more d l i n j (entry d s i n) _ _ _ (w .2) e0 (h n j (omega arith) (omega arith)) in
-      let q2 = product-more d l i n k (entry d s i n) _ _ _ p2 e1 (h n k (omega arith) (omega arith)) in
-      let e2 : x .third ≡ entry d l i n = e .2 ∙ ap₂ (div binary64) (rw ek at q2) (h n n (omega arith) (omega arith)) ∙ sym (law .quotients i n (omega arith) hi) in
-      let p3 = product-more d l i m j (entry d s i m) _ _ _ (w .3) e0 (h m j (omega arith) (omega arith)) in
-      let q3 = product-more d l i m k (entry d s i m) _ _ _ p3 e1 (h m k (omega arith) (omega arith)) in
-      let r3 = product-more d l i m n (entry d s i m) _ _ _ (rw ek at q3) e2 (h m n (omega arith) (omega arith)) in
-      let e3 : x .fourth ≡ entry d l i m = e .3 ∙ ap₂ (div binary64) (rw en at r3) (h m m (omega arith) (omega arith)) ∙ sym (law .quotients i m (omega arith) hi) in
-      (e0, e1, e2, e3)
+  left-more : (m c j n : ℕ) (u : Float) (x y : ℕ → Float) →
+      u ≡ left d s l m c j →
+      ((k : ℕ) → k < n → x k ≡ entry d l m (j + k)) →
+      ((k : ℕ) → k < n → y k ≡ entry d l c (j + k)) →
+      upto (λ k v. off v (x k) (y k)) n u ≡ left d s l m c (j + n)
+  left-more m c j n u x y e f g =
+      upto-ext (λ k v. off v (x k) (y k)) (λ k. innerStep d l m c (j + k)) n u (λ k v h. ap₂ (off v) (f k h) (g k h))
+      ∙ ap (upto (λ k. innerStep d l m c (j + k)) n) e
+      ∙ sym (upto-add (innerStep d l m c) j n (entry d s m c))
 
-  pub panel-none : (A : List Float) (j : ℕ) → PanelMade d s l A j (j + 4)
-  panel-none A j = λ m c h k. absurd (omega arith)
-
-  panel-solved : (A B : List Float) (i j rows : ℕ) (v x : Four) → Beside d A B j i → Stands d B i j v → Solves d B j v x → j + 4 ≤ i → i < rows → rows ≤ d → PanelReady d s l A j rows → Stands d l i j x
-  panel-solved A B i j rows v x f e g hj hi hr y =
-      let o : (c : ℕ) → j ≤ c → c < j + 4 → entry d B i c ≡ left d s l i c j = λ c a b. f i c (λ q. omega arith) (omega arith) ∙ y .below i c hj hi a b in
-      solved B i j v x (y .law) (λ m c hm hc. f m c (λ q. omega arith) (omega arith) ∙ y .corner m c hm hc)
-      (e .0 ∙ o j (omega arith) (omega arith), e .1 ∙ o (j + 1) (omega arith) (omega arith), e .2 ∙ o (j + 2) (omega arith) (omega arith), e .3 ∙ o (j + 3) (omega arith) (omega arith))
-      g hj (omega arith)
-
-  four-finite : (a b e f : Bool) → (a && (b && (e && f))) ≡ true → (a ≡ true) × (b ≡ true) × (e ≡ true) × (f ≡ true)
-  four-finite true true true true z = (refl, refl, refl, refl)
-  four-finite true true true false z = let w : _≡_ {A = ℕ} 0 1 = cc z in absurd (omega arith)
-  four-finite true true false f z = let w : _≡_ {A = ℕ} 0 1 = cc z in absurd (omega arith)
-  four-finite true false e f z = let w : _≡_ {A = ℕ} 0 1 = cc z in absurd (omega arith)
-  four-finite false b e f z = let w : _≡_ {A = ℕ} 0 1 = cc z in absurd (omega arith)
-
-  pub panel-goes : (A B C : List Float) (i j rows : ℕ) (v x : Four) (b : Bool) → (PanelReady d s l A j rows → PanelMade d s l B j i) → Beside d A B j i → Stands d B i j v → Solves d B j v x → b ≡ finite4 x → not b ≡ false → C ≡ stored d B i j x → length B ≡ d * d → j + 4 ≤ i → i < rows → rows ≤ d → PanelReady d s l A j rows → PanelMade d s l C j (i + 1)
-  panel-goes A B C i j rows v x b k f e g t z u hl hj hi hr w =
-      let p = k w in
-      let q = panel-solved A B i j rows v x f e g hj hi hr w in
-      let y = four-finite (finite (x .first)) (finite (x .second)) (finite (x .third)) (finite (x .fourth)) (sym t ∙ not-false b z) in
-      let o = stored-own d B i j x hl (omega arith) (omega arith) in
-      λ m c hm hn ha hb.
-      ⊎-elim
-      (λ (r : m ≡ i).
-      rw (r, u) (four-cases (λ (n : ℕ). (entry d (stored d B i j x) i n ≡ entry d l i n) × (finite (entry d l i n) ≡ true)) j c
-      (o .0 ∙ q .0, ap finite (sym (q .0)) ∙ y .0)
-      (o .1 ∙ q .1, ap finite (sym (q .1)) ∙ y .1)
-      (o .2 ∙ q .2, ap finite (sym (q .2)) ∙ y .2)
-      (o .3 ∙ q .3, ap finite (sym (q .3)) ∙ y .3)
-      ha hb))
-      (λ (r : m < i). let a = p m c hm r ha hb in (rw u (stored-other d B i j m c x (λ q. omega arith) (omega arith) (omega arith) ∙ a .0), a .1))
-      (eq-or-lt-of-le {n = m} {m = i} (omega arith))
-
-  -- the first of the four that is not finite
-  refused4 : (i j : ℕ) (a b e f : Bool) → length s ≡ d * d → Lawful d s l → Sound d s l i i → Passes d l i j → j + 4 ≤ i → i < d → finite (entry d l i j) ≡ a → finite (entry d l i (j + 1)) ≡ b → finite (entry d l i (j + 2)) ≡ e → finite (entry d l i (j + 3)) ≡ f → (a && (b && (e && f))) ≡ false → stopped 16 i ≡ factor d s
-  refused4 i j true true true true hs law so h hj hi ta tb te tf z = let w : _≡_ {A = ℕ} 0 1 = cc z in absurd (omega arith)
-  refused4 i j true true true false hs law so h hj hi ta tb te tf z =
-      let g = finite-more d s l i j h ta in
-      let g′ = finite-more d s l i (j + 1) g tb in
-      let g″ = finite-more d s l i (j + 2) (λ c q. g′ c (omega arith)) te in
-      stops-at-entry d s l i (j + 3) hs law so hi (omega arith) (λ c q. g″ c (omega arith)) tf
-  refused4 i j true true false f hs law so h hj hi ta tb te tf z =
-      let g = finite-more d s l i j h ta in
-      let g′ = finite-more d s l i (j + 1) g tb in
-      stops-at-entry d s l i (j + 2) hs law so hi (omega arith) (λ c q. g′ c (omega arith)) te
-  refused4 i j true false e f hs law so h hj hi ta tb te tf z = stops-at-entry d s l i (j + 1) hs law so hi (omega arith) (finite-more d s l i j h ta) tb
-  refused4 i j false b e f hs law so h hj hi ta tb te tf z = stops-at-entry d s l i j hs law so hi (omega arith) h ta
-
-  pub panel-breaks : (A B : List Float) (i j rows : ℕ) (v x : Four) (b : Bool) → (PanelReady d s l A j rows → PanelMade d s l B j i) → Beside d A B j i → Stands d B i j v → Solves d B j v x → b ≡ finite4 x → not b ≡ true → j + 4 ≤ i → i < rows → rows ≤ d → PanelReady d s l A j rows → PanelEnds d s l B j rows i
-  panel-breaks A B i j rows v x b k f e g t z hj hi hr w =
-      let q = panel-solved A B i j rows v x f e g hj hi hr w in
-      record {
-        made = k w;
-        refused = λ a u. refused4 i j (finite (x .first)) (finite (x .second)) (finite (x .third)) (finite (x .fourth)) (w .size) (w .law) u (λ c y. w .sound .entries i c hi (omega arith) y) hj (omega arith) (ap finite (sym (q .0))) (ap finite (sym (q .1))) (ap finite (sym (q .2))) (ap finite (sym (q .3))) (sym t ∙ not-true b z);
-      }
-
-  pub panel-closes : (A B : List Float) (i j rows : ℕ) → (PanelReady d s l A j rows → PanelMade d s l B j i) → i ≡ rows → PanelReady d s l A j rows → PanelEnds d s l B j rows rows
-  panel-closes A B i j rows k e w = record { made = rw e at (k w); refused = λ a u. absurd (omega arith) }
-
-  -- ---- four columns at a time: B is the matrix when the columns before j are made in the rows before `rows`, and their products are taken off there
-
-  pub record Stage (B : List Float) (rows j : ℕ) : Type 0 where
-    pub sound : Sound d s l rows j
-    pub holds : Holds d s l B rows j
-    pub refused : rows < d → Refused d s l rows
-    pub above : (m c : ℕ) → m < c → c < d → entry d B m c ≡ entry d s m c
-
-  pub stage-starts : Stage s d 0
-  stage-starts = record {
-    sound = record { entries = λ m c h k q. absurd (omega arith); pivots = λ m h k. absurd (omega arith) };
-    holds = record { made = λ m c h k q. absurd (omega arith); rest = λ m c h k q. left-none d s l m c };
-    refused = λ h. absurd (omega arith);
-    above = λ m c h k. refl;
-  }
+  -- the quotients are l's
+  solved : (B : List Float) (i j : ℕ) (v x : Four) →
+      FactorCells d s l →
+      Made d l B (j + 4) →
+      ((k : ℕ) → k < 4 → lane k v ≡ left d s l i (j + k) j) →
+      Solves d B j v x →
+      j + 4 ≤ i →
+      i < d →
+      (n : ℕ) → n ≤ 4 → (k : ℕ) → k < n → lane k x ≡ entry d l i (j + k)
+  solved B i j v x law h w e hj hi zero hn k hk = absurd (omega arith)
+  solved B i j v x law h w e hj hi (suc n) hn k hk =
+      let before = solved B i j v x law h w e hj hi n (omega arith) in
+      through (λ (k : ℕ). lane k x ≡ entry d l i (j + k)) n before
+      (e .quotients n (omega arith)
+      ∙ ap₂ (div binary64)
+      (left-more i (j + n) j n (lane n v) (λ o. lane o x) (λ o. entry d B (j + n) (j + o)) (w n (omega arith)) before (λ o b. h (j + n) (j + o) (omega arith) (omega arith)))
+      (h (j + n) (j + n) (omega arith) (omega arith))
+      ∙ sym (law .quotients i (j + n) (omega arith) hi))
+      k (omega arith)
 
   -- four products more of l's
-  taken-off : (D : List Float) (m c j : ℕ) → entry d D m c ≡ left d s l m c j → ((o : ℕ) → o < j + 4 → entry d D m o ≡ entry d l m o) → ((o : ℕ) → o < j + 4 → entry d D c o ≡ entry d l c o) → taken (entry d D m c) (four d D m j) (four d D c j) ≡ left d s l m c (j + 4)
+  taken-off : (D : List Float) (m c j : ℕ) →
+      entry d D m c ≡ left d s l m c j →
+      ((o : ℕ) → o < j + 4 → entry d D m o ≡ entry d l m o) →
+      ((o : ℕ) → o < j + 4 → entry d D c o ≡ entry d l c o) →
+      taken (entry d D m c) (four d D m j) (four d D c j) ≡ left d s l m c (j + 4)
+  unfolding taken
   taken-off D m c j e f g =
-      let e1 : j + 1 + 1 ≡ j + 2 = omega arith in
-      let e2 : j + 2 + 1 ≡ j + 3 = omega arith in
-      let e3 : j + 3 + 1 ≡ j + 4 = omega arith in
-      let u = entry d s m c in
-      let p0 = product-more d l m c j u _ _ _ e (f j (omega arith)) (g j (omega arith)) in
-      let p1 = product-more d l m c (j + 1) u _ _ _ p0 (f (j + 1) (omega arith)) (g (j + 1) (omega arith)) in
-      let p2 = product-more d l m c (j + 2) u _ _ _ (rw e1 at p1) (f (j + 2) (omega arith)) (g (j + 2) (omega arith)) in
-      let p3 = product-more d l m c (j + 3) u _ _ _ (rw e2 at p2) (f (j + 3) (omega arith)) (g (j + 3) (omega arith)) in
-      rw e3 at p3
+      left-more m c j 4 (entry d D m c) (λ k. lane k (four d D m j)) (λ k. lane k (four d D c j)) e
+      (λ k h. lane-four d D m j k h ∙ f (j + k) (omega arith))
+      (λ k h. lane-four d D c j k h ∙ g (j + k) (omega arith))
 
-  -- a turn: C is B with the pivots' rows made, D with the panel's rows too, E with the products taken off
-  module _ (B C : List Float) (rows j : ℕ) (r : Solve)
-      (hs : length s ≡ d * d) (law : Lawful d s l) (st : Stage B rows j)
-      (corner : (RowsReady d s l B j (j + 4) → RowsEnd d s l r B C (j + 4)))
-      (hj : j + 4 ≤ rows) (hr : rows ≤ d) where
-    corner-end : RowsEnd d s l r B C (j + 4)
-    corner-end =
-        corner (record {
-          size = hs;
-          law = law;
-          sound = record { entries = λ m c h k q. st .sound .entries m c (omega arith) k q; pivots = λ m h k. st .sound .pivots m (omega arith) k };
-          holds = record { made = λ m c h k q. st .holds .made m c (omega arith) k q; rest = λ m c h k q. st .holds .rest m c (omega arith) k q };
-        })
+-- ---- the panel's rows before i
 
-    pub corner-stops : (k q : ℕ) → r ≡ Stopped k q → ended r C ≡ factor d s
-    corner-stops k q e = rw e (corner-end .stops k q e)
+module _ (d : ℕ) where
+  pub record PanelSoFar (A B : List Float) (j rows i : ℕ) : Type 0 where
+    pub size : length B ≡ d * d
+    made : (s l : List Float) → PanelReady d s l A j rows → PanelMade d s l B j i
+    rest : OutsidePanel d A B j i
 
-    module _ (D E : List Float) (n : ℕ) (t : r ≡ Done)
-        (panel : (PanelReady d s l C j rows → PanelEnds d s l D j rows n))
-        (beside : Beside d C D j n) (hn : j + 4 ≤ n) (hm : n ≤ rows)
-        (updated : Updated d D E j (j + 4) n n) where
-      -- what the corner leaves as it is
-      kept : (m c : ℕ) → j + 4 ≤ m → c < d → entry d C m c ≡ entry d B m c
-      kept m c h k = corner-end .done t .rest m c (λ q. omega arith) k
+  pub panel-none : (A : List Float) (j rows : ℕ) → length A ≡ d * d → PanelSoFar A A j rows (j + 4)
+  panel-none A j rows hl = record { size = hl; made = λ s l y m c h k. absurd (omega arith); rest = λ m c h k. refl }
 
-      panel-end : PanelEnds d s l D j rows n
-      panel-end =
-          panel (record {
-            size = hs;
-            law = law;
-            sound = st .sound;
-            corner = corner-end .done t .made;
-            below = λ m c h k a b. kept m c h (omega arith) ∙ st .holds .rest m c k (omega arith) a;
-          })
-
-      -- the columns before j + 4
-      made : (m c : ℕ) → m < n → c ≤ m → c < j + 4 → entry d D m c ≡ entry d l m c
-      made m c h k b =
-          ⊎-elim
-          (λ (a : m < j + 4). beside m c (λ q. omega arith) (omega arith) ∙ corner-end .done t .made m c a k)
-          (λ (a : j + 4 ≤ m).
-          ⊎-elim
-          (λ (u : c < j). beside m c (λ q. omega arith) (omega arith) ∙ kept m c a (omega arith) ∙ st .holds .made m c (omega arith) k u)
-          (λ (u : j ≤ c). panel-end .made m c a h u b .0)
-          (below-or-not c j))
-          (below-or-not m (j + 4))
-
-      sound : (m c : ℕ) → m < n → c < m → c < j + 4 → finite (entry d l m c) ≡ true
-      sound m c h k b =
-          ⊎-elim
-          (λ (a : m < j + 4). corner-end .done t .sound .entries m c a k b)
-          (λ (a : j + 4 ≤ m). ⊎-elim (λ (u : c < j). st .sound .entries m c (omega arith) k u) (λ (u : j ≤ c). panel-end .made m c a h u b .1) (below-or-not c j))
-          (below-or-not m (j + 4))
-
-      after : (m c : ℕ) → m < n → c ≤ m → j + 4 ≤ c → entry d E m c ≡ left d s l m c (j + 4)
-      after m c h k b =
-          updated .cells m c b (omega arith) k h
-          ∙ taken-off D m c j
-          (beside m c (λ q. omega arith) (omega arith) ∙ kept m c (omega arith) (omega arith) ∙ st .holds .rest m c (omega arith) k (omega arith))
-          (λ o q. made m o h (omega arith) q)
-          (λ o q. made c o (omega arith) (omega arith) q)
-
-      refusal : n < d → Refused d s l n
-      refusal h u =
-          ⊎-elim
-          (λ (e : n ≡ rows). rw e (st .refused (omega arith) (rw e at u)))
-          (λ (b : n < rows). panel-end .refused b u)
-          (eq-or-lt-of-le hm)
-
-      pub stage-goes : Stage E n (j + 4)
-      stage-goes = record {
-        sound = record { entries = sound; pivots = λ m h k. corner-end .done t .sound .pivots m k k };
-        holds = record { made = λ m c h k b. updated .rest m c (λ q. omega arith) (omega arith) ∙ made m c h k b; rest = after };
-        refused = refusal;
-        above = λ m c h k. updated .rest m c (λ q. omega arith) k ∙ beside m c (λ q. omega arith) k ∙ corner-end .done t .rest m c (λ q. omega arith) k ∙ st .above m c h k;
+  pub panel-ended : (A B : List Float) (j rows i : ℕ) → PanelSoFar A B j rows i → j + 4 ≤ i → i ≤ rows → rows ≤ i → PanelSolved d A B j rows rows
+  panel-ended A B j rows i p hj a b =
+      let e : i ≡ rows = omega arith in
+      record {
+        low = omega arith;
+        high = omega arith;
+        ends = λ s l y. record { made = rw e at (p .made s l y); refused = λ h u. absurd (omega arith) };
+        rest = rw e at (p .rest);
       }
 
-  -- the last rows
-  module _ (B C : List Float) (rows j : ℕ) (r : Solve)
-      (hs : length s ≡ d * d) (law : Lawful d s l) (st : Stage B rows j)
-      (last : (RowsReady d s l B j rows → RowsEnd d s l r B C rows))
-      (hr : rows ≤ d) where
-    last-end : RowsEnd d s l r B C rows
-    last-end = last (record { size = hs; law = law; sound = st .sound; holds = st .holds })
+  module _ (A B C : List Float) (j rows i : ℕ) (b : Bool) (p : PanelSoFar A B j rows i) (q : RowSolved d B C i j b) (hj : j + 4 ≤ i) (hi : i < rows) (hr : rows ≤ d) where
+    -- row i's quotients are l's
+    row-solved : (s l : List Float) → PanelReady d s l A j rows → (k : ℕ) → k < 4 → lane k (q .x) ≡ entry d l i (j + k)
+    row-solved s l y =
+        solved d s l B i j (four d B i j) (q .x) (y .law)
+        (λ m c hm hc. p .rest m c (λ z. omega arith) (omega arith) ∙ y .pivots m c hm hc)
+        (λ k h.
+        lane-four d B i j k h
+        ∙ p .rest i (j + k) (λ z. omega arith) (omega arith)
+        ∙ y .below i (j + k) hj hi (omega arith) (omega arith))
+        (q .solves) hj (omega arith) 4 (omega arith)
 
-    pub last-stops : (k q : ℕ) → r ≡ Stopped k q → ended r C ≡ factor d s
-    last-stops k q e = rw e (last-end .stops k q e)
+    pub panel-more : not b ≡ false → PanelSoFar A C j rows (i + 1)
+    panel-more t =
+        let x = q .x in
+        let yes : b ≡ true = not-false b t in
+        let e : C ≡ stored d B i j x = rw yes at (q .result) in
+        let f : (k : ℕ) → k < 4 → finite (lane k x) ≡ true = finite-lanes x (sym (q .test) ∙ yes) in
+        let other : (m c : ℕ) → ((m ≡ i) × (j ≤ c) × (c < j + 4) → ⊥) → c < d → entry d C m c ≡ entry d B m c =
+        λ m c g hc. rw e (stored-rest d B i j x (p .size) (omega arith) (omega arith) m c g hc) in
+        record {
+          size = rw e (stored-size d B i j x (p .size) (omega arith) (omega arith));
+          made = λ s l y m c hm hn ha hb.
+              through (λ (m : ℕ). j + 4 ≤ m → (entry d C m c ≡ entry d l m c) × (finite (entry d l m c) ≡ true)) i
+              (λ m g h. let r = p .made s l y m c h g ha hb in (other m c (λ z. omega arith) (omega arith) ∙ r .0, r .1))
+              (λ h.
+              let k = c - j in
+              let z : j + k ≡ c = omega arith in
+              let r = row-solved s l y k (omega arith) in
+              let o : entry d C i (j + k) ≡ lane k x = rw e (stored-own d B i j x (p .size) (omega arith) (omega arith) k (omega arith)) in
+              let t : (entry d C i (j + k) ≡ entry d l i (j + k)) × (finite (entry d l i (j + k)) ≡ true) = (o ∙ r, rw r at (f k (omega arith))) in
+              rw z at t)
+              m (omega arith) hm;
+          rest = λ m c g hc. other m c (λ z. g (omega arith, omega arith, z .1, z .2)) hc ∙ p .rest m c (λ z. g (z .0, omega arith, z .2, z .3)) hc;
+        }
 
-    pub last-refused : r ≡ Done → rows < d → stopped 16 rows ≡ factor d s
-    last-refused t h = st .refused h (last-end .done t .sound)
+    pub panel-stopped : not b ≡ true → PanelSolved d A C j rows i
+    panel-stopped t =
+        let no : b ≡ false = not-true b t in
+        let e : C ≡ B = rw no at (q .result) in
+        let w = infinite-lane (q .x) (sym (q .test) ∙ no) in
+        let k = w .0 in
+        rw e (record {
+          low = hj;
+          high = omega arith;
+          ends = λ s l y.
+              let r = row-solved s l y in
+              record {
+                made = p .made s l y;
+                refused = λ h u.
+                    stops-at-entry d s l (y .size) (y .law) i (j + k) u (omega arith) (omega arith)
+                    (λ c hc.
+                    ⊎-elim
+                    (λ (b : c < j). y .passed .entries i c hi (omega arith) b)
+                    (λ (b : j ≤ c).
+                    let z : j + (c - j) ≡ c = omega arith in
+                    rw z at (rw (r (c - j) (omega arith)) at (w .3 (c - j) (omega arith))))
+                    (below-or-not c j))
+                    (rw (r k (w .1)) at (w .2));
+              };
+          rest = p .rest;
+        })
 
-    pub last-done : r ≡ Done → d ≤ rows → length C ≡ d * d → done C ≡ factor d s
-    last-done t h hl =
-        let e = last-end .done t in
-        ends d s l C hs law (record { entries = λ m c a b k. e .sound .entries m c (omega arith) b (omega arith); pivots = λ m a b. e .sound .pivots m (omega arith) (omega arith) }) hl
-        (λ m c a b. e .made m c (omega arith) b)
-        (λ m c a b. e .rest m c (λ q. omega arith) b ∙ st .above m c a b)
+-- ---- four columns at a time
+
+module _ (d : ℕ) where
+  pub reached-none : (s : List Float) → Reached d s s d 0
+  reached-none s = record {
+    stage = λ l law. record {
+      passed = record { entries = λ m c h k q. absurd (omega arith); pivots = λ m h k. absurd (omega arith) };
+      partial = record { made = λ m c h k q. absurd (omega arith); rest = λ m c h k q. left-none d s l m c };
+      refused = λ h. absurd (omega arith);
+      above = λ m c h k. refl;
+    };
+  }
+
+-- B is the matrix before the pivots' rows are made, C after
+module _ (d : ℕ) (s B C : List Float) (rows j to : ℕ) (r : Solve) (h : Reached d s B rows j) (f : RowsFinished d B C j to r) (hs : length s ≡ d * d) (ht : to ≤ rows) where
+  rows-answer : (l : List Float) → FactorCells d s l → RowsEnd d s l r B C to
+  rows-answer l law =
+      let st = h .stage l law in
+      f .ends s l (record {
+        size = hs;
+        law = law;
+        passed = fewer d s l rows j to j (st .passed) ht (omega arith);
+        partial = record { made = λ m c a b e. st .partial .made m c (omega arith) b e; rest = λ m c a b e. st .partial .rest m c (omega arith) b e };
+      })
+
+-- the four columns: D is C with the panel made, E with the products taken off
+module _ (d : ℕ) (s B C E : List Float) (rows j n : ℕ) (r : Solve) (h : Reached d s B rows j) (f : RowsFinished d B C j (j + 4) r)
+    (hs : length s ≡ d * d) (g : Eliminated d C E j rows n) (t : r ≡ Done) (hr : rows ≤ d) (l : List Float) (law : FactorCells d s l) where
+  stage : Stage d s l B rows j
+  stage = h .stage l law
+
+  block : RowsDone d s l B C (j + 4)
+  block = let a = g .low in let b = g .high in rows-answer d s B C rows j (j + 4) r h f hs (omega arith) l law .done t
+
+  -- what the pivots' rows leave as it is
+  unchanged : (m c : ℕ) → j + 4 ≤ m → c < d → entry d C m c ≡ entry d B m c
+  unchanged m c a b = block .rest m c (λ q. omega arith) b
+
+  panel-end : PanelEnds d s l (g .solved) j rows n
+  panel-end =
+      g .panel .ends s l (record {
+        size = hs;
+        law = law;
+        passed = stage .passed;
+        pivots = block .made;
+        below = λ m c a b e k. unchanged m c a (omega arith) ∙ stage .partial .rest m c b (omega arith) e;
+      })
+
+  -- D's cells outside the panel
+  outside : (m c : ℕ) → ((j + 4 ≤ m) × (m < n) × (j ≤ c) × (c < j + 4) → ⊥) → c < d → entry d (g .solved) m c ≡ entry d C m c
+  outside = g .panel .rest
+
+  -- the columns before j + 4
+  made : (m c : ℕ) → m < n → c ≤ m → c < j + 4 → entry d (g .solved) m c ≡ entry d l m c
+  made m c a k b =
+      let high = g .high in
+      ⊎-elim
+      (λ (u : m < j + 4). outside m c (λ q. omega arith) (omega arith) ∙ block .made m c u k)
+      (λ (u : j + 4 ≤ m).
+      ⊎-elim
+      (λ (v : c < j). outside m c (λ q. omega arith) (omega arith) ∙ unchanged m c u (omega arith) ∙ stage .partial .made m c (omega arith) k v)
+      (λ (v : j ≤ c). panel-end .made m c u a v b .0)
+      (below-or-not c j))
+      (below-or-not m (j + 4))
+
+  passed : (m c : ℕ) → m < n → c < m → c < j + 4 → finite (entry d l m c) ≡ true
+  passed m c a k b =
+      let high = g .high in
+      ⊎-elim
+      (λ (u : m < j + 4). block .passed .entries m c u k b)
+      (λ (u : j + 4 ≤ m).
+      ⊎-elim
+      (λ (v : c < j). stage .passed .entries m c (omega arith) k v)
+      (λ (v : j ≤ c). panel-end .made m c u a v b .1)
+      (below-or-not c j))
+      (below-or-not m (j + 4))
+
+  after : (m c : ℕ) → m < n → c ≤ m → j + 4 ≤ c → entry d E m c ≡ left d s l m c (j + 4)
+  after m c a k b =
+      let high = g .high in
+      g .update .cells m c b (omega arith) k a
+      ∙ taken-off d s l (g .solved) m c j
+      (outside m c (λ q. omega arith) (omega arith) ∙ unchanged m c (omega arith) (omega arith) ∙ stage .partial .rest m c (omega arith) k (omega arith))
+      (λ o q. made m o a (omega arith) q)
+      (λ o q. made c o (omega arith) (omega arith) q)
+
+  refusal : n < d → Refused d s l n
+  refusal a u =
+      ⊎-elim
+      (λ (e : n ≡ rows). rw e (stage .refused (omega arith) (rw e at u)))
+      (λ (b : n < rows). panel-end .refused b u)
+      (eq-or-lt-of-le (g .high))
+
+  next-stage : Stage d s l E n (j + 4)
+  next-stage =
+      let high = g .high in
+      record {
+        passed = record { entries = passed; pivots = λ m a b. block .passed .pivots m b b };
+        partial = record { made = λ m c a k b. g .update .rest m c (λ q. omega arith) (omega arith) ∙ made m c a k b; rest = after };
+        refused = refusal;
+        above = λ m c a b.
+            g .update .rest m c (λ q. omega arith) b
+            ∙ outside m c (λ q. omega arith) b
+            ∙ block .rest m c (λ q. omega arith) b
+            ∙ stage .above m c a b;
+      }
+
+module _ (d : ℕ) where
+  pub columns-done : (A B C : List Float) (rows j n : ℕ) (r : Solve) →
+      Eliminated d C B j rows n →
+      RowsFinished d A C j (j + 4) r →
+      r ≡ Done →
+      rows ≤ d →
+      ColumnsEnd d A B j rows Done n
+  columns-done A B C rows j n r g f t hr = record {
+    low = g .low;
+    high = g .high;
+    done = λ s hs h e. record { stage = next-stage d s A C B rows j n r h f hs g t hr };
+    stops = λ s hs h k q z. never Done k q refl z;
+  }
+
+  pub columns-stopped : (A C : List Float) (rows j : ℕ) (r : Solve) (k q : ℕ) →
+      RowsFinished d A C j (j + 4) r →
+      r ≡ Stopped k q →
+      j + 4 ≤ rows →
+      ColumnsEnd d A C j rows r rows
+  columns-stopped A C rows j r k q f e hj = record {
+    low = hj;
+    high = omega arith;
+    done = λ s hs h t. never r k q t e;
+    stops = λ s hs h n v z. let w = factor-cells d s hs in rows-answer d s A C rows j (j + 4) r h f hs hj (w .0) (w .1) .stops n v z;
+  }
+
+  pub reached-more : (s A B : List Float) (rows j n : ℕ) (r : Solve) →
+      ColumnsEnd d A B j rows r n →
+      r ≡ Done →
+      Reached d s A rows j →
+      length s ≡ d * d →
+      Reached d s B n (j + 4)
+  reached-more s A B rows j n r f e h hs = f .done s hs h e
+
+  pub reached-stopped : (s A B : List Float) (rows j n : ℕ) (r : Solve) (k q : ℕ) →
+      ColumnsEnd d A B j rows r n →
+      r ≡ Stopped k q →
+      Reached d s A rows j →
+      length s ≡ d * d →
+      ended r B ≡ factor d s
+  reached-stopped s A B rows j n r k q f e h hs = rw e (f .stops s hs h k q e)
+
+  -- ---- the last rows
+
+  pub last-stopped : (A B : List Float) (rows j : ℕ) (r : Solve) (k q : ℕ) → RowsFinished d A B j rows r → r ≡ Stopped k q → Finishes d A B rows j r
+  last-stopped A B rows j r k q f e = record {
+    answer = λ s hs h. let w = factor-cells d s hs in rw e (rows-answer d s A B rows j rows r h f hs (omega arith) (w .0) (w .1) .stops k q e);
+  }
+
+  module _ (A B : List Float) (rows j : ℕ) (r : Solve) (f : RowsFinished d A B j rows r) (t : r ≡ Done) (hr : rows ≤ d) where
+    pub last-refused : rows < d → Finishes d A B rows j (Stopped 16 rows)
+    last-refused a = record {
+      answer = λ s hs h.
+          let w = factor-cells d s hs in
+          let e = rows-answer d s A B rows j rows r h f hs (omega arith) (w .0) (w .1) .done t in
+          h .stage (w .0) (w .1) .refused a (e .passed);
+    }
+
+    pub last-done : d ≤ rows → length B ≡ length A → length A ≡ d * d → Finishes d A B rows j Done
+    last-done a hb hl = record {
+      answer = λ s hs h.
+          let w = factor-cells d s hs in
+          let l = w .0 in
+          let e = rows-answer d s A B rows j rows r h f hs (omega arith) l (w .1) .done t in
+          ends d s l hs (w .1) B (fewer d s l rows rows d d (e .passed) a a) (hb ∙ hl)
+          (λ m c b k. e .made m c (omega arith) k)
+          (λ m c b k. e .rest m c (λ q. omega arith) k ∙ h .stage l (w .1) .above m c b k);
+    }
+
+  pub factored : (s A B : List Float) (rows j : ℕ) (r : Solve) → Reached d s A rows j → Finishes d A B rows j r → length s ≡ d * d → ended r B ≡ factor d s
+  factored s A B rows j r h f hs = f .answer s hs h

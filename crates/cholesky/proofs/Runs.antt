@@ -16,7 +16,7 @@ module _ {A : Type 0} (f : ℕ → A → Result A) where
   run-more n s t e = rw e
 
   -- a run that has stopped stays so
-  pub run-stays : (k n : ℕ) (s : A) (q i : ℕ) → run f k s ≡ stopped q i → k ≤ n → run f n s ≡ stopped q i
+  run-stays : (k n : ℕ) (s : A) (q i : ℕ) → run f k s ≡ stopped q i → k ≤ n → run f n s ≡ stopped q i
   unfolding run
   run-stays k zero s q i e h = rw (let z : k ≡ 0 = omega arith in z) at e
   run-stays k (suc n) s q i e h =

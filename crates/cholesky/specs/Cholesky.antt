@@ -4,12 +4,12 @@
 use Prim.Native.Nat.{ℕ, zero, suc, _+_, _-_, _*_}
 use mathlib.Core.Path.{_≡_}
 use mathlib.Core.List.{List}
-use mathlib.Core.Bool.{Bool, cond, _&&_}
+use mathlib.Core.Bool.{cond, _&&_}
 use lib.ListN.{getD, set, take}
 use lib.Ieee.{Float, nan, binary64, sub, mul, div, lt}
 use lib.Ieee.Scale.{finite}
 use Rattle.field.specs.declared.Vec3.{Vec3}
-use Rattle.field.specs.Vec.{null, origin, minus, scale, over}
+use Rattle.field.specs.Vec.{null, at, isFinite, minus, scale, over}
 use Rattle.field.specs.Count.{upto}
 use Rattle.field.specs.Buffer.{load, vector}
 use Rattle.sqrt.specs.Root.{root}
@@ -40,13 +40,6 @@ ended (Stopped k i) x = stopped k i
 abbrev pub entry : ℕ → List Float → ℕ → ℕ → Float
 entry d A i j = getD A (i * d + j) nan
 
--- the vector of row i
-abbrev pub at : List Vec3 → ℕ → Vec3
-at f i = getD f i origin
-
-abbrev pub finite3 : Vec3 → Bool
-finite3 v = finite (v .x) && (finite (v .y) && finite (v .z))
-
 module _ (d : ℕ) where
   -- ---- the factor, in the matrix's place
 
@@ -69,6 +62,7 @@ module _ (d : ℕ) where
   unfoldable pub factorRow : ℕ → List Float → Result (List Float)
   factorRow i A = then (run (factorEntry i) i A) (pivot i)
 
+  -- the kernel's `cholesky_factor_in_place`
   unfoldable pub factor : List Float → Result (List Float)
   factor A = run factorRow d A
 
@@ -95,7 +89,7 @@ module _ (d : ℕ) where
   backVector L x i = over (upto (backStep L x i) (d - suc i) (at x i)) (entry d L i i)
 
   unfoldable pub backRow : List Float → ℕ → List Vec3 → Result (List Vec3)
-  backRow L i x = let v = backVector L x i in cond (finite3 v) (done (set x i v)) (stopped 17 i)
+  backRow L i x = let v = backVector L x i in cond (isFinite v) (done (set x i v)) (stopped 17 i)
 
   abbrev pub backTurn : List Float → ℕ → List Vec3 → Result (List Vec3)
   backTurn L t x = backRow L (d - suc t) x
@@ -103,10 +97,11 @@ module _ (d : ℕ) where
   unfoldable pub back : List Float → List Vec3 → Result (List Vec3)
   back L y = run (backTurn L) d y
 
-  -- the solution of L Lᵀ x = b, and of A x = b
+  -- the solution of L Lᵀ x = b, the kernel's `cholesky_solve_in_place`
   unfoldable pub substitution : List Vec3 → List Float → Result (List Vec3)
   substitution b L = back L (forward L b)
 
+  -- the solution of A x = b
   unfoldable pub solution : List Float → List Vec3 → Result (List Vec3)
   solution A b = then (factor A) (substitution b)
 

@@ -1,2 +1,2 @@
 pub mod Cholesky
-pub mod Stages
+pub mod inner
