@@ -1,4 +1,4 @@
--- Parent lists: the trees by which joined nodes are kept together. Internal: no entry point's contract names them.
+-- Parent lists (disjoint-set forests, as in the Rust's `active_graph_is_connected`): the trees by which joined nodes are kept together.
 -- (Document 01: 'a parent is never a greater number than its node, so climbing recurses on a falling node number'.)
 use Prim.Native.Nat.{ℕ, zero, suc, _≤_, _<_, min, max}
 use mathlib.Core.Path.{_≡_}
@@ -21,12 +21,12 @@ unfoldable pub climb : List ℕ → ℕ → ℕ → ℕ
 climb p zero x = x
 climb p (suc k) x = climb p k (parent p x)
 
--- x's root: in a forest x steps up are enough, since each reaches a lower node until the root, which is its own parent
+-- x's root: in a forest x steps are enough, since each reaches a lower node until the root, which is its own parent
 unfoldable pub rootOf : List ℕ → ℕ → ℕ
 rootOf p x = climb p x x
 
 -- each node is its own parent
-pub record Alone (p : List ℕ) : Type 0 where
+pub record Singletons (p : List ℕ) : Type 0 where
   pub own : (x : ℕ) → x < length p → parent p x ≡ x
 
 -- each of the first n nodes has the root 0
@@ -38,7 +38,13 @@ pub record SameRoots (p q : List ℕ) : Type 0 where
   pub forest : Forest q
   pub root : (x : ℕ) → rootOf q x ≡ rootOf p x
 
--- climbing from x found the root r and left the parents q
+-- q is p with x moved up to its parent's parent y
+pub record Halved (p : List ℕ) (x y : ℕ) (q : List ℕ) : Type 0 where
+  pub below : y < x
+  pub root : rootOf p y ≡ rootOf p x
+  pub same : SameRoots p q
+
+-- climbing from x found the root r and left the parents q (the Rust's `root`)
 pub record Climbed (p : List ℕ) (x r : ℕ) (q : List ℕ) : Type 0 where
   pub found : r ≡ rootOf p x
   pub below : r ≤ x
@@ -48,7 +54,7 @@ pub record Climbed (p : List ℕ) (x r : ℕ) (q : List ℕ) : Type 0 where
 unfoldable pub merged : ℕ → ℕ → ℕ → ℕ
 merged u v r = cond (eqb r (max u v)) (min u v) r
 
--- q is p with the trees of a and b made one
+-- q is p with the trees of a and b made one (the Rust's `join`)
 pub record Merged (p q : List ℕ) (a b : ℕ) : Type 0 where
   pub forest : Forest q
   pub root : (x : ℕ) → rootOf q x ≡ merged (rootOf p a) (rootOf p b) (rootOf p x)
