@@ -92,9 +92,9 @@ fn list_parts(
     ensures { λ r. ⌜ r ≡ distinct (now (labels .exit)) ⌝ }
     ensures { λ r. ⌜ now (nodes .exit) ≡ nodesAfter (graph s (now (ends .entry)) (now (weights .entry))) Passed (now (nodes .entry)) ⌝ }
 {
-    let k = s.cameras + s.points;
-    let count = parts_in(s, ends, weights, &mut nodes[..k], labels);
-    clear_numbers(nodes, k);
+    let size = s.cameras + s.points;
+    let count = parts_in(s, ends, weights, &mut nodes[..size], labels);
+    clear_numbers(nodes, size);
     count
 }
 
