@@ -54,7 +54,7 @@ distinct-end x (z ∷ l) = rw (occurs-end z x l, distinct-end x l, eqb-comm x z)
 
 module _ (g : ℕ → ℕ) where
   -- one place more is filled
-  pub field-more : (k : ℕ) (l : List ℕ) → k < length l → set (field k g ++ drop k l) k (g k) ≡ field (suc k) g ++ drop (suc k) l
+  field-more : (k : ℕ) (l : List ℕ) → k < length l → set (field k g ++ drop k l) k (g k) ≡ field (suc k) g ++ drop (suc k) l
   unfolding field
   field-more k l h = rw (drop-cons l k 0 h, append-assoc) (set-at (field k g) _ (drop (suc k) l) (g k) k (length-field k g))
 
@@ -76,13 +76,13 @@ module _ (g : ℕ → ℕ) where
 -- ---- the labels
 
 -- the label of camera c is new just if it is c
-pub count-own : (p : List ℕ) → Forest p → (c : ℕ) → rootOf p c ≡ c → distinct (field (suc c) (rootOf p)) ≡ suc (distinct (field c (rootOf p)))
+count-own : (p : List ℕ) → Forest p → (c : ℕ) → rootOf p c ≡ c → distinct (field (suc c) (rootOf p)) ≡ suc (distinct (field c (rootOf p)))
 unfolding field
 count-own p f c e =
     let l : occurs (rootOf p c) (field c (rootOf p)) ≡ false = field-lacks (rootOf p) (rootOf p c) c (λ i h d. omega (arith, root-falls p f i)) in
     distinct-end (rootOf p c) (field c (rootOf p)) ∙ rw l
 
-pub count-other : (p : List ℕ) → Forest p → (c : ℕ) → (rootOf p c ≡ c → ⊥) → distinct (field (suc c) (rootOf p)) ≡ distinct (field c (rootOf p))
+count-other : (p : List ℕ) → Forest p → (c : ℕ) → (rootOf p c ≡ c → ⊥) → distinct (field (suc c) (rootOf p)) ≡ distinct (field c (rootOf p))
 unfolding field
 count-other p f c d =
     let l : occurs (rootOf p c) (field c (rootOf p)) ≡ true = field-holds (rootOf p) (rootOf p c) (rootOf p c) c (omega (arith, root-falls p f c)) (root-root p f c) in

@@ -43,7 +43,8 @@ walks (suc zero) h = step first-row stay
 walks (suc (suc zero)) h = stay
 walks (suc (suc (suc x))) h = absurd (omega arith)
 
-same : (r a b : ℕ) → r < 2 → lt null (getD (edge .weights) r nan) ≡ true → SamePair (firstEnd (edge .ends) r) (secondNode (edge .shape) (edge .ends) r) a b → rootOf labels a ≡ rootOf labels b
+same : (r a b : ℕ) → r < 2 → lt null (getD (edge .weights) r nan) ≡ true →
+    SamePair (firstEnd (edge .ends) r) (secondNode (edge .shape) (edge .ends) r) a b → rootOf labels a ≡ rootOf labels b
 unfolding rootOf climb lt ofBits
 same zero a b h w n = ⊎-elim (λ e. rw (e .0, e .1)) (λ e. rw (e .0, e .1)) n
 same (suc zero) a b h w n = absurd (true≢false (sym w))

@@ -40,7 +40,7 @@ module _ (p : List ℕ) (f : Forest p) where
       (root-or-below x)
 
   -- x's root is its parent's
-  pub root-up : (x : ℕ) → rootOf p (parent p x) ≡ rootOf p x
+  root-up : (x : ℕ) → rootOf p (parent p x) ≡ rootOf p x
   unfolding rootOf climb
   root-up x = climb-enough (parent p x) x (parent p x) (omega arith) (f .falls x) ∙ climb-enough (suc x) x x (omega arith) (omega arith)
 
@@ -49,7 +49,7 @@ module _ (p : List ℕ) (f : Forest p) where
   root-top x e = climb-top p x x e
 
   -- what holds of the roots, and of a node if it holds of its parent below it, holds of every node
-  pub upward : (P : ℕ → Type 0) → ((x : ℕ) → parent p x ≡ x → P x) → ((x : ℕ) → parent p x < x → P (parent p x) → P x) → (x : ℕ) → P x
+  upward : (P : ℕ → Type 0) → ((x : ℕ) → parent p x ≡ x → P x) → ((x : ℕ) → parent p x < x → P (parent p x) → P x) → (x : ℕ) → P x
   upward P top up x = go x x (omega arith)
     where
       go : (k x : ℕ) → x ≤ k → P x
@@ -64,7 +64,7 @@ module _ (p : List ℕ) (f : Forest p) where
   root-falls = upward (λ x. rootOf p x ≤ x) (λ x e. omega (arith, root-top x e)) (λ x d i. omega (arith, root-up x))
 
   -- a root is its own parent
-  pub root-own : (x : ℕ) → parent p (rootOf p x) ≡ rootOf p x
+  root-own : (x : ℕ) → parent p (rootOf p x) ≡ rootOf p x
   root-own = upward (λ x. parent p (rootOf p x) ≡ rootOf p x) (λ x e. rw (root-top x e) e) (λ x d i. rw root-up at i)
 
   pub root-root : (x : ℕ) → rootOf p (rootOf p x) ≡ rootOf p x
@@ -101,7 +101,7 @@ module _ (p : List ℕ) (f : Forest p) (x y : ℕ) (below : y < x) (within : x <
       (λ (d : z ≡ x → ⊥). rw (link-other z d) (up z d)))
 
 -- a node's parent gives way to its parent's parent
-pub halved : (p : List ℕ) → Forest p → (x : ℕ) → x < length p → (parent p x ≡ x → ⊥) → SameRoots p (set p x (parent p (parent p x)))
+halved : (p : List ℕ) → Forest p → (x : ℕ) → x < length p → (parent p x ≡ x → ⊥) → SameRoots p (set p x (parent p (parent p x)))
 halved p f x within d =
     let y = parent p (parent p x) in
     let below : y < x = omega (arith, f .falls x, f .falls (parent p x)) in
@@ -151,7 +151,7 @@ module _ (p : List ℕ) (f : Forest p) (lo hi : ℕ) (le : lo ≤ hi) (within : 
 
 module _ (p : List ℕ) (f : Forest p) (a b : ℕ) where
   -- the tree of b's root is linked to a's, which is lower
-  pub merge-left : rootOf p a < rootOf p b → rootOf p b < length p → Merged p (set p (rootOf p b) (rootOf p a)) a b
+  merge-left : rootOf p a < rootOf p b → rootOf p b < length p → Merged p (set p (rootOf p b) (rootOf p a)) a b
   unfolding merged linked
   merge-left d within =
       let m = link-roots p f (rootOf p a) (rootOf p b) (omega arith) within (root-own p f a) (root-own p f b) in
@@ -160,7 +160,7 @@ module _ (p : List ℕ) (f : Forest p) (a b : ℕ) where
       record { forest = m .0; root = λ x. rw (hi, lo) (m .1 x) }
 
   -- the tree of a's root is linked to b's, which is not higher
-  pub merge-right : rootOf p b ≤ rootOf p a → rootOf p a < length p → Merged p (set p (rootOf p a) (rootOf p b)) a b
+  merge-right : rootOf p b ≤ rootOf p a → rootOf p a < length p → Merged p (set p (rootOf p a) (rootOf p b)) a b
   unfolding merged linked
   merge-right d within =
       let m = link-roots p f (rootOf p b) (rootOf p a) (omega arith) within (root-own p f b) (root-own p f a) in

@@ -1,5 +1,5 @@
 -- What the functions behind an entry point ensure, taken together. Assumes nothing.
-use Prim.Native.Nat.{ℕ, _+_, _*_, _≤_}
+use Prim.Native.Nat.{ℕ, _*_, _≤_}
 use mathlib.Core.Path.{_≡_, refl, sym, ap, _∙_}
 use mathlib.Core.Logic.{inl, inr}
 use mathlib.Core.List.{List, _++_}
@@ -22,7 +22,6 @@ use Rattle.network.specs.inner.Sound.{ShapeSound, GraphSound}
 use Rattle.network.proofs.Verdicts.{stage-passed}
 use Rattle.network.proofs.Sound.{counts-sound, counted, lengths-fit, measured, ends-fit, graph-sound}
 use Rattle.graph.specs.declared.Connectivity.{Connectivity}
-use Rattle.graph.specs.declared.Listing.{Listing}
 use Rattle.graph.specs.declared.Connectivity.the-variants as connectivity
 use Rattle.graph.specs.declared.Listing.the-variants as listing
 use Rattle.graph.specs.Joined.{Joined, Connected}

@@ -1,6 +1,6 @@
 -- What the graph calls answer, and what they leave in the buffers that they are lent (document 01: 'The graph call needs n+m node numbers',
--- 'the listing fills n labels', 'a graph call that passes its checks, ends with the needed part of its work buffer all zero and any surplus untouched').
--- Input, answer and buffers at exit: the input alone fixes the other two (`connectivity-unique` and `listing-unique` of proofs/Unique.antt).
+-- 'the listing fills n labels', 'a graph call that passes its checks, ends with the needed part of its work buffer all zero and any surplus
+-- untouched'). The input alone fixes the answer and every buffer at exit: `connectivity-unique` and `listing-unique` of proofs/Unique.antt.
 use Prim.Native.Nat.{ℕ, _+_, _<_}
 use mathlib.Core.Path.{_≡_}
 use mathlib.Core.Logic.{_⊎_}

@@ -72,7 +72,7 @@ pub(crate) fn make_singletons(parents: &mut [usize])
     }
 }
 
-// Whether each of n cameras has camera 0 as its root.
+// Whether each of n cameras has camera 0 as its root (the last line of the Rust's `active_graph_is_connected`).
 pub(crate) fn all_roots_zero(n: usize, parents: &mut [usize]) -> bool
     requires { ⌜ Forest (now parents) ⌝ }
     requires { ⌜ n ≤ length (now parents) ⌝ }

@@ -40,7 +40,7 @@ fn join_row(s: Shape, ends: &[usize], weights: &[f64], row: usize, parents: &mut
     }
 }
 
-// Joins the nodes of every row whose weight is above 0.
+// Joins the nodes of every row whose weight is above 0: the two loops of the Rust's `active_graph_is_connected`.
 pub(crate) fn join_rows(s: Shape, ends: &[usize], weights: &[f64], parents: &mut [usize])
     requires { ⌜ GraphSound (graph s (now ends) (now weights)) ⌝ }
     requires { ⌜ length (now parents) ≡ s .cameras + s .points ⌝ }

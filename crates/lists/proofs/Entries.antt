@@ -19,7 +19,7 @@ use Rattle.network.specs.Network.{secondEnd}
 use Rattle.network.specs.Refusals.{verdict, lengthTests}
 use Rattle.network.proofs.Verdicts.{stage-passed, verdict-one, test-at-passed}
 use Rattle.network.proofs.Sound.{lengths-fit, measured}
-use Rattle.lists.specs.PointLists.{listsRoom, pastPoints, pointListsTests, offsetsOf, listedOf, PointListsCall}
+use Rattle.lists.specs.PointLists.{lengthsFit, pastPoints, pointListsTests, offsetsOf, listedOf, PointListsCall}
 use Rattle.lists.specs.inner.Sorted.{Rows}
 
 pub half-test : (b k : ℕ) → leb b (k / 2) ≡ leb (2 * b) k
@@ -40,9 +40,9 @@ next-test k m h = go (eqb k (m + 1)) refl
     go false e = ne-eqb (k - 1) m (λ f. eqb-false k (m + 1) e (omega arith))
 
 -- lengths that fit
-lists-room : (m b ends offsets listed : ℕ) → listsRoom m b ends offsets listed ≡ true → (2 * b ≤ ends) × (offsets ≡ m + 1) × (listed ≡ b)
-unfolding listsRoom
-lists-room m b ends offsets listed e =
+lengths-hold : (m b ends offsets listed : ℕ) → lengthsFit m b ends offsets listed ≡ true → (2 * b ≤ ends) × (offsets ≡ m + 1) × (listed ≡ b)
+unfolding lengthsFit
+lengths-hold m b ends offsets listed e =
     let h = both-true (leb (2 * b) ends) _ e in
     let k = both-true (eqb offsets (m + 1)) (eqb listed b) (h .1) in
     (leb-true _ _ (h .0), eqb-true _ _ (k .0), eqb-true _ _ (k .1))
@@ -67,16 +67,16 @@ module _ (m : ℕ) (ends : List ℕ) (r : ℕ) (n : lowest (pastPoints m ends) r
 pub lengths-tested : {x : Verdict} {fit f : Bool} → x ≡ verdict (lengthTests fit) → fit ≡ f → x ≡ verdict (lengthTests f)
 lengths-tested e h = e ∙ ap (λ t. verdict (lengthTests t)) h
 
-pub rows-held : (m b k offsets listed : ℕ) {x : Verdict} {fit : Bool} → fit ≡ listsRoom m b k offsets listed → x ≡ verdict (lengthTests fit) → x ≡ Passed → 2 * b ≤ k
-rows-held m b k offsets listed f e h = lists-room m b k offsets listed (measured e h f) .0
+pub rows-held : (m b k offsets listed : ℕ) {x : Verdict} {fit : Bool} → fit ≡ lengthsFit m b k offsets listed → x ≡ verdict (lengthTests fit) → x ≡ Passed → 2 * b ≤ k
+rows-held m b k offsets listed f e h = lengths-hold m b k offsets listed (measured e h f) .0
 
 -- what a call that passes has shown
 pub lists-passed : {m b : ℕ} {ends : List ℕ} (offsets listed : ℕ) {x : Verdict} → x ≡ verdict (pointListsTests m b ends offsets listed) → x ≡ Passed →
     Rows m b ends × ((offsets ≡ m + 1) × (listed ≡ b))
 unfolding pointListsTests pastPoints
 lists-passed {m} {b} {ends} offsets listed e h =
-    let a = stage-passed (lengthTests (listsRoom m b (length ends) offsets listed)) _ (sym e ∙ h) in
-    let k = lists-room m b (length ends) offsets listed (lengths-fit _ (a .0)) in
+    let a = stage-passed (lengthTests (lengthsFit m b (length ends) offsets listed)) _ (sym e ∙ h) in
+    let k = lengths-hold m b (length ends) offsets listed (lengths-fit _ (a .0)) in
     let n = test-at-passed 4 _ (sym (verdict-one _) ∙ a .1) in
     (record { held = k .0; point = λ r l. leb-false _ _ (none-of _ b n r l) }, (k .1, k .2))
 

@@ -10,7 +10,7 @@ ghost use lib.ListN.{length};
 ghost use lib.Dec.{eqb, leb};
 ghost use Rattle.field.specs.Count.{lowest};
 ghost use Rattle.network.specs.Refusals.{verdict};
-ghost use Rattle.lists.specs.PointLists.{listsRoom, pastPoints, pointListsTests};
+ghost use Rattle.lists.specs.PointLists.{lengthsFit, pastPoints, pointListsTests};
 
 // Whether 2 b is at most k, for any b.
 fn holds(k: usize, b: usize) -> bool
@@ -30,8 +30,8 @@ fn is_next(k: usize, m: usize) -> bool
 }
 
 // Whether the slices have the lengths that the counts say.
-fn lists_room(m: usize, b: usize, ends: usize, offsets: usize, listed: usize) -> bool
-    ensures { λ r. ⌜ r ≡ listsRoom m b ends offsets listed ⌝ }
+fn lengths_fit(m: usize, b: usize, ends: usize, offsets: usize, listed: usize) -> bool
+    ensures { λ r. ⌜ r ≡ lengthsFit m b ends offsets listed ⌝ }
 {
     both(holds(ends, b), both(is_next(offsets, m), listed == b))
 }
@@ -55,7 +55,7 @@ fn find_past(m: usize, b: usize, ends: &[usize]) -> Place
 pub(crate) fn check(m: usize, b: usize, ends: &[usize], offsets: usize, listed: usize) -> Verdict
     ensures { λ r. ⌜ r ≡ verdict (pointListsTests m b (now (ends .entry)) offsets listed) ⌝ }
 {
-    let lengths = check_lengths(lists_room(m, b, ends.len(), offsets, listed));
+    let lengths = check_lengths(lengths_fit(m, b, ends.len(), offsets, listed));
     if let Verdict::Refused(r) = lengths {
         return Verdict::Refused(r);
     }

@@ -1,11 +1,10 @@
-// The point lists of a network, built from its rows.
+// The point lists of a network, built from its rows (the Rust's `point_offsets` and `point_bearings`).
 mod entry;
 mod sort;
 
 use entry::check;
 use network::Verdict;
 use sort::sort_rows;
-ghost use mathlib.Core.Path.{_≡_};
 ghost use Rattle.lists.specs.PointLists.{PointListsCall};
 
 // Fills the m + 1 offsets and the b row numbers of the point lists. `ends` holds camera and point of each bearing,
