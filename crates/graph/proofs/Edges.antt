@@ -1,19 +1,19 @@
 -- Document 01, 'Values at the edges': n=3, direction 0-1 weight 1, 1-2 weight 0: not connected, labels 0 0 2. Assumes nothing.
 use Prim.Native.Nat.{ℕ, zero, suc, _≤_, _<_}
 use mathlib.Core.Path.{_≡_, refl, sym}
-use mathlib.Core.Logic.{_⊎_, ⊎-elim, inr}
+use mathlib.Core.Logic.{⊎-elim, inr}
 use mathlib.Core.List.{List, [], _∷_}
 use mathlib.Core.Bool.{true, true≢false}
 use native.Mathlib.Omega.{arith}
 use lib.ListN.{getD}
-use lib.Ieee.{binary64, ofBits, lt}
+use lib.Ieee.{binary64, ofBits, lt, nan}
 use Rattle.field.specs.Vec.{null}
-use Rattle.network.specs.Network.{Graph, shape, graph, weight}
+use Rattle.network.specs.Network.{Graph, shape, graph, firstEnd}
 use Rattle.graph.specs.Walk.{Walk, stay, step}
-use Rattle.graph.specs.Joined.{near, far, Joined, Connected, Label}
+use Rattle.graph.specs.Joined.{secondNode, SamePair, Joined, Connected, Label}
 use Rattle.graph.specs.Distinct.{occurs, distinct}
-use Rattle.graph.specs.Forest.{Forest, climb, rootOf, RootsZero, Spans}
-use Rattle.graph.proofs.Spanning.{turn, roots-zero, lowest-root}
+use Rattle.graph.specs.inner.Forest.{Forest, climb, rootOf, RootsZero, Spans}
+use Rattle.graph.proofs.Spanning.{symmetric, roots-zero, lowest-root}
 
 -- the weight 0 is a zero
 abbrev pub edge : Graph
@@ -34,7 +34,7 @@ forest = record { falls = go }
 
 first-row : Joined edge 1 0
 unfolding lt ofBits
-first-row = record { row = 0; below = omega arith; weighs = refl; nodes = inr (refl, refl) }
+first-row = record { row = 0; below = omega arith; positive = refl; nodes = inr (refl, refl) }
 
 walks : (x : ℕ) → x < 3 → Walk (Joined edge) x (rootOf labels x)
 unfolding rootOf climb
@@ -43,21 +43,22 @@ walks (suc zero) h = step first-row stay
 walks (suc (suc zero)) h = stay
 walks (suc (suc (suc x))) h = absurd (omega arith)
 
-same : (r a b : ℕ) → r < 2 → lt null (weight edge r) ≡ true → ((a ≡ near edge r) × (b ≡ far edge r)) ⊎ ((a ≡ far edge r) × (b ≡ near edge r)) → rootOf labels a ≡ rootOf labels b
+same : (r a b : ℕ) → r < 2 → lt null (getD (edge .weights) r nan) ≡ true →
+    SamePair (firstEnd (edge .ends) r) (secondNode (edge .shape) (edge .ends) r) a b → rootOf labels a ≡ rootOf labels b
 unfolding rootOf climb lt ofBits
 same zero a b h w n = ⊎-elim (λ e. rw (e .0, e .1)) (λ e. rw (e .0, e .1)) n
 same (suc zero) a b h w n = absurd (true≢false (sym w))
 same (suc (suc r)) a b h w n = absurd (omega arith)
 
 spans : Spans (Joined edge) labels
-spans = record { forest = forest; walk = walks; same = λ a b j. same (j .row) a b (j .below) (j .weighs) (j .nodes) }
+spans = record { forest = forest; walk = walks; same = λ a b j. same (j .row) a b (j .below) (j .positive) (j .nodes) }
 
 apart : Connected edge → ⊥
 unfolding rootOf climb RootsZero
-apart c = let z : _≡_ {A = ℕ} 2 0 = roots-zero (Joined edge) (turn edge 2) labels spans 3 c 2 (omega arith) in omega arith
+apart c = let z : _≡_ {A = ℕ} 2 0 = roots-zero (Joined edge) (symmetric edge 2) labels spans 3 c 2 (omega arith) in omega arith
 
 label : (c : ℕ) → c < 3 → Label edge c (rootOf labels c)
-label c h = lowest-root (Joined edge) (turn edge 2) labels spans 3 (omega arith) c h
+label c h = lowest-root (Joined edge) (symmetric edge 2) labels spans 3 (omega arith) c h
 
 pub edge-row : (Connected edge → ⊥) × Label edge 0 0 × Label edge 1 0 × Label edge 2 2 × (distinct labels ≡ 2)
 unfolding rootOf climb distinct occurs

@@ -7,12 +7,12 @@ use mathlib.Core.Bool.{true, false, cond, true≢false}
 use native.Mathlib.Nat.{eq-or-lt-of-le}
 use native.Mathlib.Decide.{ℕ-discrete}
 use native.Mathlib.Omega.{arith}
-use lib.ListN.{length, set}
+use lib.ListN.{length, set, length-set}
 use lib.Seq.{getD-set-same, getD-set-other, set-getD}
 use lib.Dec.{eqb}
-use borrow.Author.Count.{below-more}
+use borrow.Author.Count.{below-none, below-more}
 use borrow.Author.Tests.{eq-eqb, ne-eqb}
-use Rattle.graph.specs.Forest.{parent, Forest, climb, rootOf, SameRoots, Climbed, merged, Merged, RootsZero, Decides}
+use Rattle.graph.specs.inner.Forest.{parent, Forest, Singletons, climb, rootOf, SameRoots, Halved, Climbed, merged, Merged, RootsZero, Decides}
 
 climb-top : (p : List ℕ) (k x : ℕ) → parent p x ≡ x → climb p k x ≡ x
 unfolding climb
@@ -21,8 +21,8 @@ climb-top p (suc k) x e = rw e (climb-top p k x e)
 
 module _ (p : List ℕ) (f : Forest p) where
   -- x is a root, or its parent is below it
-  level : (x : ℕ) → (parent p x ≡ x) ⊎ (parent p x < x)
-  level x = eq-or-lt-of-le (f .falls x)
+  root-or-below : (x : ℕ) → (parent p x ≡ x) ⊎ (parent p x < x)
+  root-or-below x = eq-or-lt-of-le (f .falls x)
 
   -- enough steps reach the same node as more
   climb-enough : (k l x : ℕ) → x ≤ k → x ≤ l → climb p k x ≡ climb p l x
@@ -37,10 +37,10 @@ module _ (p : List ℕ) (f : Forest p) where
       ⊎-elim
       (λ (e : parent p x ≡ x). climb-top p (suc k) x e ∙ sym (climb-top p (suc l) x e))
       (λ (d : parent p x < x). climb-enough k l (parent p x) (omega arith) (omega arith))
-      (level x)
+      (root-or-below x)
 
   -- x's root is its parent's
-  pub root-up : (x : ℕ) → rootOf p (parent p x) ≡ rootOf p x
+  root-up : (x : ℕ) → rootOf p (parent p x) ≡ rootOf p x
   unfolding rootOf climb
   root-up x = climb-enough (parent p x) x (parent p x) (omega arith) (f .falls x) ∙ climb-enough (suc x) x x (omega arith) (omega arith)
 
@@ -49,7 +49,7 @@ module _ (p : List ℕ) (f : Forest p) where
   root-top x e = climb-top p x x e
 
   -- what holds of the roots, and of a node if it holds of its parent below it, holds of every node
-  pub upward : (P : ℕ → Type 0) → ((x : ℕ) → parent p x ≡ x → P x) → ((x : ℕ) → parent p x < x → P (parent p x) → P x) → (x : ℕ) → P x
+  upward : (P : ℕ → Type 0) → ((x : ℕ) → parent p x ≡ x → P x) → ((x : ℕ) → parent p x < x → P (parent p x) → P x) → (x : ℕ) → P x
   upward P top up x = go x x (omega arith)
     where
       go : (k x : ℕ) → x ≤ k → P x
@@ -58,13 +58,13 @@ module _ (p : List ℕ) (f : Forest p) where
           ⊎-elim
           (λ (e : parent p x ≡ x). top x e)
           (λ (d : parent p x < x). up x d (go k (parent p x) (omega arith)))
-          (level x)
+          (root-or-below x)
 
   pub root-falls : (x : ℕ) → rootOf p x ≤ x
   root-falls = upward (λ x. rootOf p x ≤ x) (λ x e. omega (arith, root-top x e)) (λ x d i. omega (arith, root-up x))
 
   -- a root is its own parent
-  pub root-own : (x : ℕ) → parent p (rootOf p x) ≡ rootOf p x
+  root-own : (x : ℕ) → parent p (rootOf p x) ≡ rootOf p x
   root-own = upward (λ x. parent p (rootOf p x) ≡ rootOf p x) (λ x e. rw (root-top x e) e) (λ x d i. rw root-up at i)
 
   pub root-root : (x : ℕ) → rootOf p (rootOf p x) ≡ rootOf p x
@@ -101,7 +101,7 @@ module _ (p : List ℕ) (f : Forest p) (x y : ℕ) (below : y < x) (within : x <
       (λ (d : z ≡ x → ⊥). rw (link-other z d) (up z d)))
 
 -- a node's parent gives way to its parent's parent
-pub halved : (p : List ℕ) → Forest p → (x : ℕ) → x < length p → (parent p x ≡ x → ⊥) → SameRoots p (set p x (parent p (parent p x)))
+halved : (p : List ℕ) → Forest p → (x : ℕ) → x < length p → (parent p x ≡ x → ⊥) → SameRoots p (set p x (parent p (parent p x)))
 halved p f x within d =
     let y = parent p (parent p x) in
     let below : y < x = omega (arith, f .falls x, f .falls (parent p x)) in
@@ -118,81 +118,93 @@ same-roots-refl p f = record { forest = f; root = λ x. refl }
 
 -- ---- two trees made one
 
-under : ℕ → ℕ → ℕ → ℕ
-under lo hi r = cond (eqb r hi) lo r
+-- the root r, once the root hi is linked to the root lo
+linked : ℕ → ℕ → ℕ → ℕ
+linked lo hi r = cond (eqb r hi) lo r
 
-under-at : (lo hi : ℕ) → under lo hi hi ≡ lo
-unfolding under
-under-at lo hi = rw (eq-eqb hi hi refl)
+linked-at : (lo hi : ℕ) → linked lo hi hi ≡ lo
+unfolding linked
+linked-at lo hi = rw (eq-eqb hi hi refl)
 
-under-off : (lo hi r : ℕ) → (r ≡ hi → ⊥) → under lo hi r ≡ r
-unfolding under
-under-off lo hi r d = rw (ne-eqb r hi d)
+linked-off : (lo hi r : ℕ) → (r ≡ hi → ⊥) → linked lo hi r ≡ r
+unfolding linked
+linked-off lo hi r d = rw (ne-eqb r hi d)
 
-under-self : (u r : ℕ) → under u u r ≡ r
-under-self u r = by-cases (ℕ-discrete r u) (λ (e : r ≡ u). rw e (under-at u u)) (λ (d : r ≡ u → ⊥). under-off u u r d)
+linked-self : (u r : ℕ) → linked u u r ≡ r
+linked-self u r = by-cases (ℕ-discrete r u) (λ (e : r ≡ u). rw e (linked-at u u)) (λ (d : r ≡ u → ⊥). linked-off u u r d)
 
 module _ (p : List ℕ) (f : Forest p) (lo hi : ℕ) (le : lo ≤ hi) (within : hi < length p) (low : parent p lo ≡ lo) (high : parent p hi ≡ hi) where
-  put-under : Forest (set p hi lo) × ((x : ℕ) → rootOf (set p hi lo) x ≡ under lo hi (rootOf p x))
-  put-under =
+  link-roots : Forest (set p hi lo) × ((x : ℕ) → rootOf (set p hi lo) x ≡ linked lo hi (rootOf p x))
+  link-roots =
       ⊎-elim
       (λ (e : lo ≡ hi).
       let s : set p hi lo ≡ p = ap (λ (v : ℕ). set p hi v) (e ∙ sym high) ∙ set-getD p hi 0 in
-      rw s (f, λ x. rw e (sym (under-self hi (rootOf p x)))))
+      rw s (f, λ x. rw e (sym (linked-self hi (rootOf p x)))))
       (λ (d : lo < hi). (
         link-forest p f hi lo d within,
-        link-root p f hi lo d within (λ x. under lo hi (rootOf p x))
-            (λ z n e. rw (root-top p f z e) (under-off lo hi z n))
-            (λ z n. ap (under lo hi) (root-up p f z))
-            (rw (root-top p f lo low, root-top p f hi high) (under-off lo hi lo (λ e. omega arith) ∙ sym (under-at lo hi))),
+        link-root p f hi lo d within (λ x. linked lo hi (rootOf p x))
+            (λ z n e. rw (root-top p f z e) (linked-off lo hi z n))
+            (λ z n. ap (linked lo hi) (root-up p f z))
+            (rw (root-top p f lo low, root-top p f hi high) (linked-off lo hi lo (λ e. omega arith) ∙ sym (linked-at lo hi))),
       ))
       (eq-or-lt-of-le le)
 
 module _ (p : List ℕ) (f : Forest p) (a b : ℕ) where
-  -- the tree of b's root is put under a's, which is lower
-  pub merge-left : rootOf p a < rootOf p b → rootOf p b < length p → Merged p (set p (rootOf p b) (rootOf p a)) a b
-  unfolding merged under
+  -- the tree of b's root is linked to a's, which is lower
+  merge-left : rootOf p a < rootOf p b → rootOf p b < length p → Merged p (set p (rootOf p b) (rootOf p a)) a b
+  unfolding merged linked
   merge-left d within =
-      let m = put-under p f (rootOf p a) (rootOf p b) (omega arith) within (root-own p f a) (root-own p f b) in
+      let m = link-roots p f (rootOf p a) (rootOf p b) (omega arith) within (root-own p f a) (root-own p f b) in
       let hi : max (rootOf p a) (rootOf p b) ≡ rootOf p b = omega arith in
       let lo : min (rootOf p a) (rootOf p b) ≡ rootOf p a = omega arith in
       record { forest = m .0; root = λ x. rw (hi, lo) (m .1 x) }
 
-  -- the tree of a's root is put under b's, which is not higher
-  pub merge-right : rootOf p b ≤ rootOf p a → rootOf p a < length p → Merged p (set p (rootOf p a) (rootOf p b)) a b
-  unfolding merged under
+  -- the tree of a's root is linked to b's, which is not higher
+  merge-right : rootOf p b ≤ rootOf p a → rootOf p a < length p → Merged p (set p (rootOf p a) (rootOf p b)) a b
+  unfolding merged linked
   merge-right d within =
-      let m = put-under p f (rootOf p b) (rootOf p a) (omega arith) within (root-own p f b) (root-own p f a) in
+      let m = link-roots p f (rootOf p b) (rootOf p a) (omega arith) within (root-own p f b) (root-own p f a) in
       let hi : max (rootOf p a) (rootOf p b) ≡ rootOf p a = omega arith in
       let lo : min (rootOf p a) (rootOf p b) ≡ rootOf p b = omega arith in
       record { forest = m .0; root = λ x. rw (hi, lo) (m .1 x) }
 
   -- nodes with one parent are in one tree
   pub merge-none : parent p a ≡ parent p b → Merged p p a b
-  unfolding merged under
+  unfolding merged linked
   merge-none e =
       let same : rootOf p b ≡ rootOf p a = sym (root-up p f b) ∙ ap (rootOf p) (sym e) ∙ root-up p f a in
       let hi : max (rootOf p a) (rootOf p a) ≡ rootOf p a = omega arith in
       let lo : min (rootOf p a) (rootOf p a) ≡ rootOf p a = omega arith in
-      record { forest = f; root = λ x. rw (same, hi, lo) (sym (under-self (rootOf p a) (rootOf p x))) }
+      record { forest = f; root = λ x. rw (same, hi, lo) (sym (linked-self (rootOf p a) (rootOf p x))) }
 
--- ---- what the functions over a parent list leave
+-- ---- what the functions over a parent list need and leave
 
--- a climb that ends at once, and one that goes on from the parent's parent
-pub climbed-top : (p : List ℕ) (x : ℕ) → Forest p → parent p x ≡ x → Climbed p x x p
-climbed-top p x f e = record { found = sym (root-top p f x e); below = omega arith; same = same-roots-refl p f }
+pub parent-falls : {p : List ℕ} (x : ℕ) → Forest p → parent p x ≤ x
+parent-falls x f = f .falls x
 
-pub climbed-on : (p q : List ℕ) (x r : ℕ) → Forest p → x < length p → (parent p x ≡ x → ⊥) → Climbed (set p x (parent p (parent p x))) (parent p (parent p x)) r q → Climbed p x r q
-climbed-on p q x r f within d c =
-    let h = halved p f x within d in
-    record {
-      found = c .found ∙ h .root (parent p (parent p x)) ∙ root-up p f (parent p x) ∙ root-up p f x;
-      below = omega (arith, c .below, f .falls x, f .falls (parent p x));
-      same = same-roots-trans _ _ _ h (c .same);
-    }
+-- x's parent `up` and the parent of that were read, and x moved up
+pub moved-up : {p : List ℕ} {x up y : ℕ} → Forest p → x < length p → up ≡ parent p x → up < x → y ≡ parent p up → Halved p x y (set p x y)
+moved-up {p} {x} {up} f within u d n =
+    rw (n, u)
+    (record {
+      below = omega (arith, u, d, f .falls (parent p x));
+      root = root-up p f (parent p x) ∙ root-up p f x;
+      same = halved p f x within (λ e. omega arith);
+    })
+
+-- a climb from x ends at once, or goes on from the parent's parent
+pub climbed-top : {p : List ℕ} {x up : ℕ} → Forest p → up ≡ parent p x → up ≡ x → Climbed p x x p
+climbed-top {p} {x} f u e = record { found = sym (root-top p f x (sym u ∙ e)); below = omega arith; same = same-roots-refl p f }
+
+pub climbed-on : {p p₁ q : List ℕ} {x y r : ℕ} → Halved p x y p₁ → Climbed p₁ y r q → Climbed p x r q
+climbed-on {y = y} h c = record {
+  found = c .found ∙ h .same .root y ∙ h .root;
+  below = omega (arith, c .below, h .below);
+  same = same-roots-trans _ _ _ (h .same) (c .same);
+}
 
 -- what is merged after two climbs is merged from the start
-module _ (p p₁ p₂ : List ℕ) (a b u v : ℕ) (s : Climbed p a u p₁) (t : Climbed p₁ b v p₂) where
+module _ {p p₁ p₂ : List ℕ} {a b u v : ℕ} (s : Climbed p a u p₁) (t : Climbed p₁ b v p₂) where
   both : SameRoots p p₂
   both = same-roots-trans p p₁ p₂ (s .same) (t .same)
 
@@ -206,28 +218,62 @@ module _ (p p₁ p₂ : List ℕ) (a b u v : ℕ) (s : Climbed p a u p₁) (t : 
   merged-from q m =
       record { forest = m .forest; root = λ x. m .root x ∙ rw (both .root a, both .root b, both .root x) }
 
-  pub joined-left : u < v → v < length p₂ → Merged p (set p₂ v u) a b
-  joined-left d w =
+  pub joined-left : u < v → b < length p → length p₁ ≡ length p → length p₂ ≡ length p₁ → Merged p (set p₂ v u) a b
+  joined-left d h k l =
+      let w : v < length p₂ = omega (arith, t .below) in
       rw (at-a, at-b) (merged-from _ (merge-left p₂ (both .forest) a b (omega (arith, at-a, at-b)) (omega (arith, at-a, at-b))))
 
-  pub joined-right : v ≤ u → u < length p₂ → Merged p (set p₂ u v) a b
-  joined-right d w =
+  pub joined-right : v ≤ u → a < length p → length p₁ ≡ length p → length p₂ ≡ length p₁ → Merged p (set p₂ u v) a b
+  joined-right d h k l =
+      let w : u < length p₂ = omega (arith, s .below) in
       rw (at-a, at-b) (merged-from _ (merge-right p₂ (both .forest) a b (omega (arith, at-a, at-b)) (omega (arith, at-a, at-b))))
 
--- one node more is its own parent
-pub start-more : (p : List ℕ) (i : ℕ) → i < length p → ((x : ℕ) → x < i → parent p x ≡ x) → (x : ℕ) → x < i + 1 → parent (set p i i) x ≡ x
-start-more p i h all =
-    below-more (λ x. parent (set p i i) x ≡ x) i (λ x l. getD-set-other p i x i 0 (λ (e : x ≡ i). omega arith) ∙ all x l) (getD-set-same p i i 0 h)
+-- each of the first i nodes is its own parent: none, one more, and all
+pub record Owned (i : ℕ) (p₀ p : List ℕ) : Type 0 where
+  pub within : i ≤ length p
+  pub size : length p ≡ length p₀
+  pub own : (x : ℕ) → x < i → parent p x ≡ x
+
+pub owned-none : (p : List ℕ) → Owned 0 p p
+owned-none p = record { within = omega arith; size = refl; own = below-none _ }
+
+pub owned-more : {i : ℕ} {p₀ p : List ℕ} → Owned i p₀ p → i < length p → Owned (i + 1) p₀ (set p i i)
+owned-more {i} {p₀} {p} o h =
+    record {
+      within = simp length-set (omega arith);
+      size = length-set p i i ∙ o .size;
+      own =
+          below-more (λ x. parent (set p i i) x ≡ x) i
+          (λ x l. getD-set-other p i x i 0 (λ (e : x ≡ i). omega arith) ∙ o .own x l)
+          (getD-set-same p i i 0 h);
+    }
+
+pub owned-all : {i : ℕ} {p₀ p : List ℕ} → Owned i p₀ p → length p ≤ i → Singletons p
+owned-all o h = record { own = λ x l. o .own x (omega arith) }
 
 -- ---- the cameras, asked one by one
 
-pub all-below : (p : List ℕ) (n : ℕ) → ((c : ℕ) → c < n → rootOf p c ≡ 0) → Decides true (RootsZero p n)
-unfolding RootsZero
-all-below p n all = record { yes = λ _. all; no = λ e. absurd (true≢false e) }
+-- each of the first c nodes has the root 0 in p₀; p has the roots of p₀
+pub record ZeroBelow (c : ℕ) (p₀ p : List ℕ) : Type 0 where
+  pub size : length p ≡ length p₀
+  pub same : SameRoots p₀ p
+  pub zero : (x : ℕ) → x < c → rootOf p₀ x ≡ 0
 
-pub one-apart : (p q q' : List ℕ) (n c r : ℕ) → SameRoots p q → Climbed q c r q' → c < n → (r ≡ 0 → ⊥) → Decides false (RootsZero p n)
-unfolding RootsZero
-one-apart p q q' n c r s k h d = record { yes = λ e. absurd (true≢false (sym e)); no = λ _ all. d (k .found ∙ s .root c ∙ all c h) }
+pub zero-none : {p : List ℕ} → Forest p → ZeroBelow 0 p p
+zero-none {p} f = record { size = refl; same = same-roots-refl p f; zero = below-none _ }
 
-pub one-more : (p q q' : List ℕ) (c r : ℕ) → SameRoots p q → Climbed q c r q' → r ≡ 0 → ((x : ℕ) → x < c → rootOf p x ≡ 0) → (x : ℕ) → x < c + 1 → rootOf p x ≡ 0
-one-more p q q' c r s k e all = below-more (λ x. rootOf p x ≡ 0) c all (sym (s .root c) ∙ sym (k .found) ∙ e)
+pub zero-more : {c r : ℕ} {p₀ p q : List ℕ} → ZeroBelow c p₀ p → Climbed p c r q → length q ≡ length p → r ≡ 0 → ZeroBelow (c + 1) p₀ q
+zero-more {c} {r} {p₀} z k l e =
+    record {
+      size = l ∙ z .size;
+      same = same-roots-trans _ _ _ (z .same) (k .same);
+      zero = below-more (λ x. rootOf p₀ x ≡ 0) c (z .zero) (sym (z .same .root c) ∙ sym (k .found) ∙ e);
+    }
+
+pub zero-all : {c n : ℕ} {p₀ p : List ℕ} → ZeroBelow c p₀ p → n ≤ c → Decides true (RootsZero p₀ n)
+unfolding RootsZero
+zero-all z h = record { yes = λ _ x l. z .zero x (omega arith); no = λ e. absurd (true≢false e) }
+
+pub zero-not : {c n r : ℕ} {p₀ p q : List ℕ} → ZeroBelow c p₀ p → Climbed p c r q → c < n → (r ≡ 0 → ⊥) → Decides false (RootsZero p₀ n)
+unfolding RootsZero
+zero-not {c} z k h d = record { yes = λ e. absurd (true≢false (sym e)); no = λ _ all. d (k .found ∙ z .same .root c ∙ all c h) }

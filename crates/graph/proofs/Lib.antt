@@ -4,4 +4,5 @@ pub mod Forests
 pub mod Spanning
 pub mod Counts
 pub mod Outcomes
+pub mod Unique
 pub mod Edges

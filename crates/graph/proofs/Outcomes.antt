@@ -1,105 +1,123 @@
--- What the calls behind an entry point ensure, taken together. Assumes nothing.
-use Prim.Native.Nat.{ℕ, _+_, _-_, _≤_, _<_}
+-- What the functions behind an entry point ensure, taken together. Assumes nothing.
+use Prim.Native.Nat.{ℕ, _*_, _≤_}
 use mathlib.Core.Path.{_≡_, refl, sym, ap, _∙_}
-use mathlib.Core.Logic.{inl, inr, by-cases}
+use mathlib.Core.Logic.{inl, inr}
 use mathlib.Core.List.{List, _++_}
-use mathlib.Core.Bool.{Bool, true, false, _&&_, true≢false}
-use native.Mathlib.Decide.{decLe}
+use mathlib.Core.Bool.{Bool, true, false}
 use native.Mathlib.Omega.{arith}
-use lib.ListN.{length, drop, replicate}
-use lib.Dec.{eqb, leb}
-use borrow.Author.Tests.{le-leb, lt-leb, leb-true, eqb-true}
+use lib.ListN.{length, take, drop, replicate}
+use lib.Ieee.{Float}
+use lib.Seq.{drop-at, length-take-le}
+use borrow.Author.Tests.{leb-true, eqb-true}
+use Rattle.double.proofs.Truth.{both-true}
 use Rattle.field.specs.Count.{field}
-use Rattle.network.specs.Network.{Graph, rows}
+use Rattle.field.proofs.Counting.{length-field, getD-field}
+use Rattle.network.specs.declared.Shape.{Shape}
+use Rattle.network.specs.Network.{Graph, graph, rows}
 use Rattle.network.specs.declared.Refusal.{Refusal}
 use Rattle.network.specs.declared.Verdict.{Verdict}
 use Rattle.network.specs.declared.Verdict.the-variants as tested
-use Rattle.network.specs.Refusals.{verdict, graphTests}
-use Rattle.network.specs.Sound.{GraphSound}
-use Rattle.network.proofs.Sound.{graph-sound}
+use Rattle.network.specs.Refusals.{verdict, countTests, endsFit, lengthTests}
+use Rattle.network.specs.inner.Sound.{ShapeSound, GraphSound}
+use Rattle.network.proofs.Verdicts.{stage-passed}
+use Rattle.network.proofs.Sound.{counts-sound, counted, lengths-fit, measured, ends-fit, graph-sound}
 use Rattle.graph.specs.declared.Connectivity.{Connectivity}
-use Rattle.graph.specs.declared.Listing.{Listing}
 use Rattle.graph.specs.declared.Connectivity.the-variants as connectivity
 use Rattle.graph.specs.declared.Listing.the-variants as listing
 use Rattle.graph.specs.Joined.{Joined, Connected}
 use Rattle.graph.specs.Distinct.{distinct}
-use Rattle.graph.specs.Forest.{rootOf, RootsZero, Spans, Decides}
-use Rattle.graph.specs.Outcome.{nodeCount, Labelled, Answered, Listed, connectivityVerdict, listingVerdict, ConnectivityCall, ListingCall}
-use Rattle.graph.proofs.Spanning.{turn, connects, roots-zero, lowest-root}
-use Rattle.field.proofs.Counting.{length-field, getD-field}
+use Rattle.graph.specs.Outcome.{nodeCount, connectivityFits, connectivityTests, listingFits, listingTests, nodesAfter, Decided, Labelled, ConnectivityCall, ListingCall}
+use Rattle.graph.specs.inner.Forest.{rootOf, RootsZero, Spans, Decides}
+use Rattle.graph.proofs.Spanning.{symmetric, connects, roots-zero, lowest-root}
 
-pub zeros : (l l' : List ℕ) (k : ℕ) → length l ≡ k → l' ≡ replicate (length l) 0 → l' ≡ replicate k 0
-zeros l l' k h e = rw h at e
+-- ---- what the trees tell of the graph
 
-module _ (g : Graph) (p : List ℕ) (s : Spans (Joined g) p) (h : g .shape .cameras ≤ length p) where
-  pub decided : (r : Bool) → Decides r (RootsZero p (g .shape .cameras)) → Decides r (Connected g)
-  decided r d = record {
-    yes = λ e. connects (Joined g) (turn g (rows (g .shape))) p s (g .shape .cameras) h (d .yes e);
-    no = λ e c. d .no e (roots-zero (Joined g) (turn g (rows (g .shape))) p s (g .shape .cameras) c);
-  }
+pub decided : {g : Graph} {p : List ℕ} {r : Bool} → Spans (Joined g) p → length p ≡ nodeCount g → Decides r (RootsZero p (g .shape .cameras)) → Decides r (Connected g)
+decided {g} {p} s h d = record {
+  yes = λ e. connects (Joined g) (symmetric g (rows (g .shape))) p s (g .shape .cameras) (omega arith) (d .yes e);
+  no = λ e c. d .no e (roots-zero (Joined g) (symmetric g (rows (g .shape))) p s (g .shape .cameras) c);
+}
 
-  pub labelled : (labels : List ℕ) (n : ℕ) → n ≡ g .shape .cameras → labels ≡ field n (rootOf p) → Labelled g labels
-  labelled labels n i e =
-      rw e
-      (record {
-        count = length-field n (rootOf p) ∙ i;
-        label = λ c l. rw (getD-field n (rootOf p) c 0 (omega arith)) (lowest-root (Joined g) (turn g (rows (g .shape))) p s (g .shape .cameras) h c l);
-      })
+pub labelled : {g : Graph} {p labels : List ℕ} {n : ℕ} → Spans (Joined g) p → length p ≡ nodeCount g → n ≡ g .shape .cameras → labels ≡ field n (rootOf p) → Labelled g labels
+labelled {g} {p} {labels} {n} s h i e =
+    rw e
+    (record {
+      count = length-field n (rootOf p) ∙ i;
+      label = λ c l.
+          rw (getD-field n (rootOf p) c 0 (omega arith))
+          (lowest-root (Joined g) (symmetric g (rows (g .shape))) p s (g .shape .cameras) (omega arith) c l);
+    })
 
--- the answer to the yes or no, and what is left in the n + m nodes and the surplus
-module _ (g : Graph) (nodes front : List ℕ) (r : Bool) (d : Decides r (Connected g)) (z : front ≡ replicate (nodeCount g) 0) where
-  pub answered-yes : r ≡ true → Answered g connectivity.Connected nodes (front ++ drop (nodeCount g) nodes)
-  answered-yes e = record { decided = inl (refl, d .yes e); zeroed = rw z }
+pub decided-yes : (g : Graph) {r : Bool} → Decides r (Connected g) → r ≡ true → Decided g tested.Passed connectivity.Connected
+decided-yes g d e = inl (refl, d .yes e)
 
-  pub answered-no : r ≡ false → Answered g connectivity.Disconnected nodes (front ++ drop (nodeCount g) nodes)
-  answered-no e = record { decided = inr (refl, d .no e); zeroed = rw z }
+pub decided-no : (g : Graph) {r : Bool} → Decides r (Connected g) → r ≡ false → Decided g tested.Passed connectivity.Disconnected
+decided-no g d e = inr (refl, d .no e)
 
-pub listed : (g : Graph) (nodes front labels : List ℕ) (r : ℕ) → Labelled g labels → r ≡ distinct labels → front ≡ replicate (nodeCount g) 0 →
-    Listed g (listing.Parts r) nodes (front ++ drop (nodeCount g) nodes) labels
-listed g nodes front labels r l e z = record { labelled = l; parts = ap listing.Parts e; zeroed = rw z }
+-- the first k numbers are changed, and then cleared
+pub zeroed : (k : ℕ) (old front : List ℕ) {new : List ℕ} → new ≡ replicate k 0 ++ drop k (front ++ drop k old) → length front ≡ length (take k old) → k ≤ length old →
+    new ≡ replicate k 0 ++ drop k old
+zeroed k old front e h l = e ∙ ap (λ t. replicate k 0 ++ t) (drop-at front (drop k old) k (h ∙ length-take-le k old l))
 
--- n + m ≤ k, asked without the sum
-pub room-no : (n m k : ℕ) → k < n → leb n k ≡ leb (n + m) k
-room-no n m k h = lt-leb n k h ∙ sym (lt-leb (n + m) k (omega arith))
+-- ---- a call that refuses nothing
 
-pub room-rest : (n m k : ℕ) → n ≤ k → leb m (k - n) ≡ leb (n + m) k
-room-rest n m k h =
-    by-cases
-    (decLe m (k - n))
-    (λ (l : m ≤ k - n). le-leb m (k - n) l ∙ sym (le-leb (n + m) k (omega arith)))
-    (λ d. lt-leb m (k - n) (omega arith) ∙ sym (lt-leb (n + m) k (omega arith)))
+pub connectivity-fits : (g : Graph) (nodes : ℕ) → connectivityFits g nodes ≡ true → (endsFit (rows (g .shape)) (g .ends) (g .weights) ≡ true) × (nodeCount g ≤ nodes)
+unfolding connectivityFits
+connectivity-fits g nodes e = let h = both-true _ _ e in (h .0, leb-true _ _ (h .1))
 
--- ---- a whole call
+pub listing-fits : (g : Graph) (nodes labels : ℕ) → listingFits g nodes labels ≡ true → (connectivityFits g nodes ≡ true) × (labels ≡ g .shape .cameras)
+unfolding listingFits
+listing-fits g nodes labels e = let h = both-true (connectivityFits g nodes) _ e in (h .0, eqb-true _ _ (h .1))
 
-not-both : (v : Verdict) (r : Refusal) → v ≡ tested.Refused r → v ≡ tested.Passed → ⊥
-not-both v r e f = let z : _≡_ {A = ℕ} 0 1 = cc in omega arith
+-- ---- the stage of the lengths, where `fit` was computed
 
--- what the test tells, at what the buffers' test told
-pub told : (g : Graph) (fit fit' : Bool) (v w : Verdict) → fit ≡ fit' → v ≡ verdict (graphTests g fit) → v ≡ w → verdict (graphTests g fit') ≡ w
-told g fit fit' v w e h i = ap (λ (f : Bool). verdict (graphTests g f)) (sym e) ∙ sym h ∙ i
+pub lengths-tested : {x : Verdict} {fit f : Bool} → x ≡ verdict (lengthTests fit) → fit ≡ f → x ≡ verdict (lengthTests f)
+lengths-tested e h = e ∙ ap (λ t. verdict (lengthTests t)) h
 
-pub both : (a b : Bool) → (a && b) ≡ true → (a ≡ true) × (b ≡ true)
-both true b e = (refl, e)
-both false b e = absurd (true≢false (sym e))
+-- what 1 to 3 have shown: counts in range, and a length for each row
+module _ (s : Shape) (ends : List ℕ) (weights : List Float) (nodes : ℕ) {w x : Verdict} {fit : Bool} where
+  pub connectivity-measured : fit ≡ connectivityFits (graph s ends weights) nodes → x ≡ verdict (lengthTests fit) → x ≡ tested.Passed →
+      w ≡ verdict (countTests s) → w ≡ tested.Passed → ShapeSound s × ((length ends ≡ 2 * rows s) × (length weights ≡ rows s))
+  connectivity-measured f e h d k = (counted d k, ends-fit _ _ _ (connectivity-fits (graph s ends weights) nodes (measured e h f) .0))
 
-module _ (g : Graph) (nodes : List ℕ) where
-  pub connectivity-sound : connectivityVerdict g nodes ≡ tested.Passed → GraphSound g × (nodeCount g ≤ length nodes)
-  connectivity-sound e = let s = graph-sound g _ e in (s .0, leb-true _ _ (s .1))
+  pub listing-measured : (labels : ℕ) → fit ≡ listingFits (graph s ends weights) nodes labels → x ≡ verdict (lengthTests fit) → x ≡ tested.Passed →
+      w ≡ verdict (countTests s) → w ≡ tested.Passed → ShapeSound s × ((length ends ≡ 2 * rows s) × (length weights ≡ rows s))
+  listing-measured labels f e h d k =
+      let l = listing-fits (graph s ends weights) nodes labels (measured e h f) in
+      (counted d k, ends-fit _ _ _ (connectivity-fits (graph s ends weights) nodes (l .0) .0))
 
-  pub listing-sound : (labels : List ℕ) → listingVerdict g nodes labels ≡ tested.Passed → GraphSound g × ((nodeCount g ≤ length nodes) × (length labels ≡ g .shape .cameras))
-  listing-sound labels e =
-      let s = graph-sound g _ e in
-      let f = both (leb (nodeCount g) (length nodes)) (eqb (length labels) (g .shape .cameras)) (s .1) in
-      (s .0, (leb-true _ _ (f .0), eqb-true _ _ (f .1)))
+-- ---- a whole call: what its tests have shown, and what it answers and leaves
 
-  pub call-refused : (r : Refusal) → connectivityVerdict g nodes ≡ tested.Refused r → ConnectivityCall g (connectivity.Refused r) nodes nodes
-  call-refused r e = record { refused = λ s f. (cc, refl); passed = λ f. absurd (not-both _ r e f) }
+pub connectivity-sound : {g : Graph} {nodes : ℕ} {v : Verdict} → v ≡ verdict (connectivityTests g nodes) → v ≡ tested.Passed → GraphSound g × (nodeCount g ≤ nodes)
+unfolding connectivityTests
+connectivity-sound {g} {nodes} e h =
+    let a = stage-passed (countTests (g .shape)) _ (sym e ∙ h) in
+    let b = stage-passed (lengthTests (connectivityFits g nodes)) _ (a .1) in
+    let f = connectivity-fits g nodes (lengths-fit _ (b .0)) in
+    (graph-sound g (counts-sound _ (a .0)) (f .0) (b .1), f .1)
 
-  pub call-passed : (a : Connectivity) (nodes' : List ℕ) → connectivityVerdict g nodes ≡ tested.Passed → Answered g a nodes nodes' → ConnectivityCall g a nodes nodes'
-  call-passed a nodes' e d = record { refused = λ s f. absurd (not-both _ s f e); passed = λ f. d }
+pub listing-sound : {g : Graph} {nodes labels : ℕ} {v : Verdict} → v ≡ verdict (listingTests g nodes labels) → v ≡ tested.Passed →
+    GraphSound g × ((nodeCount g ≤ nodes) × (labels ≡ g .shape .cameras))
+unfolding listingTests
+listing-sound {g} {nodes} {labels} e h =
+    let a = stage-passed (countTests (g .shape)) _ (sym e ∙ h) in
+    let b = stage-passed (lengthTests (listingFits g nodes labels)) _ (a .1) in
+    let k = listing-fits g nodes labels (lengths-fit _ (b .0)) in
+    let f = connectivity-fits g nodes (k .0) in
+    (graph-sound g (counts-sound _ (a .0)) (f .0) (b .1), (f .1, k .1))
 
-  pub listing-refused : (labels : List ℕ) (r : Refusal) → listingVerdict g nodes labels ≡ tested.Refused r → ListingCall g (listing.Refused r) nodes nodes labels labels
-  listing-refused labels r e = record { refused = λ s f. (cc, refl, refl); passed = λ f. absurd (not-both _ r e f) }
+module _ {g : Graph} {nodes : List ℕ} {v : Verdict} (e : v ≡ verdict (connectivityTests g (length nodes))) where
+  pub connectivity-refused : {r : Refusal} → v ≡ tested.Refused r → ConnectivityCall g (connectivity.Refused r) nodes nodes
+  connectivity-refused h = let w = sym e ∙ h in record { decided = rw w refl; nodesOut = rw w refl }
 
-  pub listing-passed : (a : Listing) (nodes' labels labels' : List ℕ) → listingVerdict g nodes labels ≡ tested.Passed → Listed g a nodes nodes' labels' → ListingCall g a nodes nodes' labels labels'
-  listing-passed a nodes' labels labels' e d = record { refused = λ s f. absurd (not-both _ s f e); passed = λ f. d }
+  pub connectivity-passed : {a : Connectivity} {nodes' : List ℕ} → v ≡ tested.Passed → Decided g tested.Passed a → nodes' ≡ nodesAfter g tested.Passed nodes →
+      ConnectivityCall g a nodes nodes'
+  connectivity-passed h d z = let w = sym e ∙ h in record { decided = rw w d; nodesOut = rw w z }
+
+module _ {g : Graph} {nodes labels : List ℕ} {v : Verdict} (e : v ≡ verdict (listingTests g (length nodes) (length labels))) where
+  pub listing-refused : {r : Refusal} → v ≡ tested.Refused r → ListingCall g (listing.Refused r) nodes nodes labels labels
+  listing-refused h = let w = sym e ∙ h in record { parts = rw w refl; labelsOut = rw w refl; nodesOut = rw w refl }
+
+  pub listing-passed : {count : ℕ} {nodes' labels' : List ℕ} → v ≡ tested.Passed → Labelled g labels' → count ≡ distinct labels' → nodes' ≡ nodesAfter g tested.Passed nodes →
+      ListingCall g (listing.Parts count) nodes nodes' labels labels'
+  listing-passed h l c z = let w = sym e ∙ h in record { parts = rw w (ap listing.Parts c); labelsOut = rw w l; nodesOut = rw w z }

@@ -10,8 +10,8 @@ module _ (J : ℕ → ℕ → Type 0) where
   append (step j w) v = step j (append w v)
 
   pub reverse : ((a b : ℕ) → J a b → J b a) → {a b : ℕ} → Walk J a b → Walk J b a
-  reverse turn stay = stay
-  reverse turn (step j w) = append (reverse turn w) (step (turn _ _ j) stay)
+  reverse symmetric stay = stay
+  reverse symmetric (step j w) = append (reverse symmetric w) (step (symmetric _ _ j) stay)
 
   -- a number that joined nodes share is shared along a walk
   pub shared : (f : ℕ → ℕ) → ((a b : ℕ) → J a b → f a ≡ f b) → {a b : ℕ} → Walk J a b → f a ≡ f b

@@ -4,24 +4,28 @@ use Prim.Native.Nat.{ℕ, _+_, _<_}
 use mathlib.Core.Path.{_≡_}
 use mathlib.Core.Bool.{true, cond}
 use mathlib.Core.Logic.{_⊎_}
-use lib.Ieee.{lt}
+use mathlib.Core.List.{List}
+use lib.ListN.{getD}
+use lib.Ieee.{lt, nan}
 use Rattle.field.specs.Vec.{null}
-use Rattle.network.specs.Network.{Graph, rows, first, second, isBearing, weight}
+use Rattle.network.specs.declared.Shape.{Shape}
+use Rattle.network.specs.Network.{Graph, rows, firstEnd, secondEnd, isBearing}
 use Rattle.graph.specs.Walk.{Connects, LowestReached}
 
--- the nodes of a row: camera and point of a bearing, source and target of a direction
-abbrev pub near : Graph → ℕ → ℕ
-near g r = first g r
+-- the second node of a row: the point of a bearing, the target of a direction. The first is its camera or source.
+abbrev pub secondNode : Shape → List ℕ → ℕ → ℕ
+secondNode s ends r = cond (isBearing s r) (s .cameras + secondEnd ends r) (secondEnd ends r)
 
-abbrev pub far : Graph → ℕ → ℕ
-far g r = cond (isBearing g r) (g .shape .cameras + second g r) (second g r)
+-- a and b are u and v, in either order
+abbrev pub SamePair : (u v a b : ℕ) → Type 0
+SamePair u v a b = ((a ≡ u) × (b ≡ v)) ⊎ ((a ≡ v) × (b ≡ u))
 
--- a row below k has weight above 0, and its nodes are a and b
+-- a row below k has a weight above 0, and its nodes are a and b
 pub record JoinedBelow (g : Graph) (k a b : ℕ) : Type 0 where
   pub row : ℕ
   pub below : row < k
-  pub weighs : lt null (weight g row) ≡ true
-  pub nodes : ((a ≡ near g row) × (b ≡ far g row)) ⊎ ((a ≡ far g row) × (b ≡ near g row))
+  pub positive : lt null (getD (g .weights) row nan) ≡ true
+  pub nodes : SamePair (firstEnd (g .ends) row) (secondNode (g .shape) (g .ends) row) a b
 
 -- a and b are joined
 abbrev pub Joined : Graph → ℕ → ℕ → Type 0

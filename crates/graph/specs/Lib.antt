@@ -1,5 +1,5 @@
 pub mod Walk
 pub mod Joined
 pub mod Distinct
-pub mod Forest
 pub mod Outcome
+pub mod inner

@@ -1,28 +1,49 @@
 // Parent lists: trees of nodes. A parent is never a greater number than its node, and a root is its own parent.
 ghost use mathlib.Core.Path.{_≡_};
 ghost use Prim.Native.Nat.{_≤_, _<_};
-ghost use lib.ListN.{length, replicate};
+ghost use lib.ListN.{length};
 ghost use Rattle.field.specs.Count.{field};
 ghost use Rattle.graph.specs.Distinct.{distinct};
-ghost use Rattle.graph.specs.Forest.{Forest, Alone, RootsZero, rootOf, Climbed, Merged, Decides};
+ghost use Rattle.graph.specs.inner.Forest.{parent, Forest, Singletons, RootsZero, rootOf, Halved, Climbed, Merged, Decides};
 
-// The root of a node. On the way each node gets its parent's parent, which shortens the next climb.
+// The parent of a node.
+fn parent_of(parents: &[usize], node: usize) -> usize
+    requires { ⌜ Forest (now parents) ⌝ }
+    requires { ⌜ node < length (now parents) ⌝ }
+    ensures { λ r. ⌜ (r ≡ parent (now (parents .entry)) node) × (r ≤ node) ⌝ }
+{
+    parents[node]
+}
+
+// Path halving: a node that is no root gets its parent's parent as its parent. That is returned.
+fn halve(parents: &mut [usize], node: usize, up: usize) -> usize
+    requires { ⌜ Forest (now parents) ⌝ }
+    requires { ⌜ node < length (now parents) ⌝ }
+    requires { ⌜ (up ≡ parent (now parents) node) × (up < node) ⌝ }
+    ensures { λ r. ⌜ Halved (now (parents .entry)) node r (now (parents .exit)) ⌝ }
+{
+    let next = parent_of(parents, up);
+    parents[node] = next;
+    next
+}
+
+// The root of a node (the Rust's `root`), with path halving.
 pub(crate) fn root(parents: &mut [usize], node: usize) -> usize
     requires { ⌜ Forest (now parents) ⌝ }
     requires { ⌜ node < length (now parents) ⌝ }
     ensures { λ r. ⌜ Climbed (now (parents .entry)) node r (now (parents .exit)) ⌝ }
 {
-    let up = parents[node];
+    let up = parent_of(parents, node);
     if up == node {
         node
     } else {
-        let next = parents[up];
-        parents[node] = next;
+        let next = halve(parents, node, up);
         root(parents, next)
     }
 }
 
-// Makes the trees of two nodes one, under the lower of the two roots. Two nodes with one parent are in one tree already.
+// Makes the trees of two nodes one, with the lower of the two roots as its root (the Rust's `join`).
+// Two nodes with one parent are in one tree already.
 pub(crate) fn join(parents: &mut [usize], a: usize, b: usize)
     requires { ⌜ Forest (now parents) ⌝ }
     requires { ⌜ (a < length (now parents)) × (b < length (now parents)) ⌝ }
@@ -41,8 +62,8 @@ pub(crate) fn join(parents: &mut [usize], a: usize, b: usize)
 }
 
 // Each node its own parent.
-pub(crate) fn start(parents: &mut [usize])
-    ensures { λ r. ⌜ Alone (now (parents .exit)) ⌝ }
+pub(crate) fn make_singletons(parents: &mut [usize])
+    ensures { λ r. ⌜ Singletons (now (parents .exit)) ⌝ }
 {
     let mut i = 0usize;
     while i < parents.len() {
@@ -51,8 +72,8 @@ pub(crate) fn start(parents: &mut [usize])
     }
 }
 
-// Whether each of n cameras has camera 0 as its root.
-pub(crate) fn all_under_zero(n: usize, parents: &mut [usize]) -> bool
+// Whether each of n cameras has camera 0 as its root (the last line of the Rust's `active_graph_is_connected`).
+pub(crate) fn all_roots_zero(n: usize, parents: &mut [usize]) -> bool
     requires { ⌜ Forest (now parents) ⌝ }
     requires { ⌜ n ≤ length (now parents) ⌝ }
     ensures { λ r. ⌜ Decides r (RootsZero (now (parents .entry)) n) ⌝ }
@@ -85,15 +106,4 @@ pub(crate) fn list_labels(parents: &mut [usize], labels: &mut [usize]) -> usize
         c += 1;
     }
     count
-}
-
-// Zeros throughout.
-pub(crate) fn clear(nodes: &mut [usize])
-    ensures { λ r. ⌜ now (nodes .exit) ≡ replicate (length (now (nodes .entry))) 0 ⌝ }
-{
-    let mut i = 0usize;
-    while i < nodes.len() {
-        nodes[i] = 0;
-        i += 1;
-    }
 }

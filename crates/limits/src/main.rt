@@ -1,12 +1,28 @@
 // Calls the tests 1 to 8 and the graph calls on good and bad input at the limits and prints number and place of each refusal.
 // What it must print is the file `stdout`.
+mod stages;
+
 use graph::Connectivity;
 use graph::Listing;
 use io::print_decimal;
 use io::write_all;
-use network::Length;
 use network::Refusal;
+use network::Shape;
 use network::Verdict;
+use network::check_counts;
+use stages::Length;
+use stages::check_solve;
+use stages::check_step;
+use stages::work_length;
+
+fn shape(n: usize, m: usize, b: usize, e: usize) -> Shape {
+    Shape {
+        cameras: n,
+        points: m,
+        bearings: b,
+        directions: e,
+    }
+}
 
 fn number(x: usize) {
     print_decimal(1, x as u64);
@@ -39,7 +55,7 @@ fn length(n: usize, route: usize, limit: usize) {
     write_all(1, b" limit ");
     number(limit);
     write_all(1, b": ");
-    match network::work_length(n, 2, 3, 1, route, limit) {
+    match work_length(shape(n, 2, 3, 1), route, limit) {
         Length::Refused(r) => refusal(r),
         Length::Of(t) => number(t),
     }
@@ -77,11 +93,8 @@ fn solve(name: &[u8], c: Case, route: usize, limit: usize) {
     let points = c.points;
     let offsets = c.offsets;
     let listed = c.listed;
-    let v = network::check_solve(
-        3,
-        2,
-        3,
-        1,
+    let v = check_solve(
+        shape(3, 2, 3, 1),
         &ends,
         &rays,
         &weights,
@@ -91,7 +104,6 @@ fn solve(name: &[u8], c: Case, route: usize, limit: usize) {
         &listed,
         route,
         limit,
-        true,
     );
     verdict(name, v);
 }
@@ -148,11 +160,8 @@ fn ends_of(name: &[u8], ends: &[usize]) {
     let points = c.points;
     let offsets = c.offsets;
     let listed = c.listed;
-    let v = network::check_step(
-        3,
-        2,
-        3,
-        1,
+    let v = check_step(
+        shape(3, 2, 3, 1),
         ends,
         &rays,
         &weights,
@@ -160,7 +169,6 @@ fn ends_of(name: &[u8], ends: &[usize]) {
         &points,
         &offsets,
         &listed,
-        true,
     );
     verdict(name, v);
 }
@@ -173,11 +181,8 @@ fn rays_of(name: &[u8], rays: &[f64]) {
     let points = c.points;
     let offsets = c.offsets;
     let listed = c.listed;
-    let v = network::check_step(
-        3,
-        2,
-        3,
-        1,
+    let v = check_step(
+        shape(3, 2, 3, 1),
         &ends,
         rays,
         &weights,
@@ -185,7 +190,6 @@ fn rays_of(name: &[u8], rays: &[f64]) {
         &points,
         &offsets,
         &listed,
-        true,
     );
     verdict(name, v);
 }
@@ -198,11 +202,8 @@ fn weights_of(name: &[u8], weights: &[f64]) {
     let points = c.points;
     let offsets = c.offsets;
     let listed = c.listed;
-    let v = network::check_step(
-        3,
-        2,
-        3,
-        1,
+    let v = check_step(
+        shape(3, 2, 3, 1),
         &ends,
         &rays,
         weights,
@@ -210,7 +211,6 @@ fn weights_of(name: &[u8], weights: &[f64]) {
         &points,
         &offsets,
         &listed,
-        true,
     );
     verdict(name, v);
 }
@@ -223,11 +223,8 @@ fn scales_of(name: &[u8], scales: &[f64]) {
     let points = c.points;
     let offsets = c.offsets;
     let listed = c.listed;
-    let v = network::check_step(
-        3,
-        2,
-        3,
-        1,
+    let v = check_step(
+        shape(3, 2, 3, 1),
         &ends,
         &rays,
         &weights,
@@ -235,7 +232,6 @@ fn scales_of(name: &[u8], scales: &[f64]) {
         &points,
         &offsets,
         &listed,
-        true,
     );
     verdict(name, v);
 }
@@ -248,11 +244,8 @@ fn points_of(name: &[u8], points: &[f64]) {
     let scales = c.scales;
     let offsets = c.offsets;
     let listed = c.listed;
-    let v = network::check_step(
-        3,
-        2,
-        3,
-        1,
+    let v = check_step(
+        shape(3, 2, 3, 1),
         &ends,
         &rays,
         &weights,
@@ -260,7 +253,6 @@ fn points_of(name: &[u8], points: &[f64]) {
         points,
         &offsets,
         &listed,
-        true,
     );
     verdict(name, v);
 }
@@ -273,11 +265,8 @@ fn offsets_of(name: &[u8], offsets: &[usize]) {
     let scales = c.scales;
     let points = c.points;
     let listed = c.listed;
-    let v = network::check_step(
-        3,
-        2,
-        3,
-        1,
+    let v = check_step(
+        shape(3, 2, 3, 1),
         &ends,
         &rays,
         &weights,
@@ -285,7 +274,6 @@ fn offsets_of(name: &[u8], offsets: &[usize]) {
         &points,
         offsets,
         &listed,
-        true,
     );
     verdict(name, v);
 }
@@ -298,11 +286,8 @@ fn listed_of(name: &[u8], listed: &[usize]) {
     let scales = c.scales;
     let points = c.points;
     let offsets = c.offsets;
-    let v = network::check_step(
-        3,
-        2,
-        3,
-        1,
+    let v = check_step(
+        shape(3, 2, 3, 1),
         &ends,
         &rays,
         &weights,
@@ -310,7 +295,6 @@ fn listed_of(name: &[u8], listed: &[usize]) {
         &points,
         &offsets,
         listed,
-        true,
     );
     verdict(name, v);
 }
@@ -321,7 +305,7 @@ fn connectivity(name: &[u8], n: usize, v: f64, nodes: &mut [usize]) {
     let weights = [1.0, v];
     write_all(1, name);
     write_all(1, b": ");
-    match graph::is_connected(n, 0, 0, 2, &ends, &weights, nodes) {
+    match graph::is_connected(shape(n, 0, 0, 2), &ends, &weights, nodes) {
         Connectivity::Refused(r) => refusal(r),
         Connectivity::Connected => {
             write_all(1, b"connected");
@@ -350,7 +334,7 @@ fn listing(name: &[u8], nodes: &mut [usize], labels: &mut [usize]) {
     let weights = [1.0, 0.0];
     write_all(1, name);
     write_all(1, b": ");
-    match graph::parts(3, 0, 0, 2, &ends, &weights, nodes, labels) {
+    match graph::parts(shape(3, 0, 0, 2), &ends, &weights, nodes, labels) {
         Listing::Refused(r) => refusal(r),
         Listing::Parts(parts) => {
             write_all(1, b"parts ");
@@ -378,16 +362,16 @@ fn lengths() {
 }
 
 fn counts() {
-    verdict(b"n 0", network::check_counts(0, 0, 0, 0));
-    verdict(b"n 1", network::check_counts(1, 0, 0, 0));
-    verdict(b"n 4096", network::check_counts(4096, 65536, 262144, 65536));
-    verdict(b"n 4097", network::check_counts(4097, 65537, 0, 0));
-    verdict(b"m 65537", network::check_counts(1, 65537, 0, 0));
-    verdict(b"B 262145", network::check_counts(1, 0, 262145, 0));
-    verdict(b"E 65537", network::check_counts(1, 0, 0, 65537));
+    verdict(b"n 0", check_counts(shape(0, 0, 0, 0)));
+    verdict(b"n 1", check_counts(shape(1, 0, 0, 0)));
+    verdict(b"n 4096", check_counts(shape(4096, 65536, 262144, 65536)));
+    verdict(b"n 4097", check_counts(shape(4097, 65537, 0, 0)));
+    verdict(b"m 65537", check_counts(shape(1, 65537, 0, 0)));
+    verdict(b"B 262145", check_counts(shape(1, 0, 262145, 0)));
+    verdict(b"E 65537", check_counts(shape(1, 0, 0, 65537)));
     verdict(
         b"n largest",
-        network::check_counts(0xffff_ffff_ffff_ffff, 0, 0, 0),
+        check_counts(shape(0xffff_ffff_ffff_ffff, 0, 0, 0)),
     );
 }
 

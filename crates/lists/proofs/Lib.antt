@@ -1,3 +1,3 @@
 pub mod Sorting
 pub mod Entries
-pub mod Unique
+pub mod Holding

@@ -1,2 +1,2 @@
-pub mod Listed
-pub mod Sorted
+pub mod PointLists
+pub mod inner

@@ -3,13 +3,14 @@ use field::Place;
 use network::Verdict;
 use network::answers::both;
 use network::answers::refused_at;
-use network::answers::refused_if;
+use network::lengths::check_lengths;
 ghost use mathlib.Core.Path.{_≡_};
 ghost use Prim.Native.Nat.{_+_, _*_, _≤_};
 ghost use lib.ListN.{length};
 ghost use lib.Dec.{eqb, leb};
 ghost use Rattle.field.specs.Count.{lowest};
-ghost use Rattle.lists.specs.Listed.{roomFits, pastPoints, listVerdict};
+ghost use Rattle.network.specs.Refusals.{verdict};
+ghost use Rattle.lists.specs.PointLists.{lengthsFit, pastPoints, pointListsTests};
 
 // Whether 2 b is at most k, for any b.
 fn holds(k: usize, b: usize) -> bool
@@ -29,10 +30,10 @@ fn is_next(k: usize, m: usize) -> bool
 }
 
 // Whether the slices have the lengths that the counts say.
-fn room_fits(m: usize, b: usize, ends: usize, offsets: usize, rows: usize) -> bool
-    ensures { λ r. ⌜ r ≡ roomFits m b ends offsets rows ⌝ }
+fn lengths_fit(m: usize, b: usize, ends: usize, offsets: usize, listed: usize) -> bool
+    ensures { λ r. ⌜ r ≡ lengthsFit m b ends offsets listed ⌝ }
 {
-    both(holds(ends, b), both(is_next(offsets, m), rows == b))
+    both(holds(ends, b), both(is_next(offsets, m), listed == b))
 }
 
 // The lowest of b rows whose point number is not below m.
@@ -51,11 +52,11 @@ fn find_past(m: usize, b: usize, ends: &[usize]) -> Place
 }
 
 // 3, then 4.
-pub(crate) fn check(m: usize, b: usize, ends: &[usize], offsets: usize, rows: usize) -> Verdict
-    ensures { λ r. ⌜ r ≡ listVerdict m b (now (ends .entry)) offsets rows ⌝ }
+pub(crate) fn check(m: usize, b: usize, ends: &[usize], offsets: usize, listed: usize) -> Verdict
+    ensures { λ r. ⌜ r ≡ verdict (pointListsTests m b (now (ends .entry)) offsets listed) ⌝ }
 {
-    let room = refused_if(3, !room_fits(m, b, ends.len(), offsets, rows));
-    if let Verdict::Refused(r) = room {
+    let lengths = check_lengths(lengths_fit(m, b, ends.len(), offsets, listed));
+    if let Verdict::Refused(r) = lengths {
         return Verdict::Refused(r);
     }
     refused_at(4, find_past(m, b, ends))

@@ -154,14 +154,14 @@ offsets-sound m b offsets size e =
     let rises : (p : ℕ) → p < m → getD offsets p 0 ≤ getD offsets (p + 1) 0 = λ p l. rising offsets p (none-each _ m (k .1) p l) in
     record { size = size; start = eqb-true _ _ (h .0); end = end; rises = rises; within = λ p l. rw end at (climbs offsets m rises p l) }
 
--- place k of the lists lies under some point
-under : (offsets : List ℕ) (m k : ℕ) → getD offsets 0 0 ≡ 0 → k < getD offsets m 0 → (p : ℕ) × (p < m) × (getD offsets p 0 ≤ k) × (k < getD offsets (p + 1) 0)
-under offsets zero k e l = absurd (omega arith)
-under offsets (suc m) k e l =
+-- k lies between two neighbours of f 0, f 1, .. f m
+pub locate : (f : ℕ → ℕ) (m k : ℕ) → f 0 ≡ 0 → k < f m → (p : ℕ) × (p < m) × (f p ≤ k) × (k < f (p + 1))
+locate f zero k e l = absurd (omega arith)
+locate f (suc m) k e l =
     dite
-    (decLt k (getD offsets m 0))
-    (λ (h : k < getD offsets m 0). let u = under offsets m k e h in (u .0, omega (arith, u .1), u .2, u .3))
-    (λ (h : k < getD offsets m 0 → ⊥). (m, omega arith, omega arith, rw add-one l))
+    (decLt k (f m))
+    (λ (h : k < f m). let u = locate f m k e h in (u .0, omega (arith, u .1), u .2, u .3))
+    (λ (h : k < f m → ⊥). (m, omega arith, omega arith, rw add-one l))
 
 placed : (b : ℕ) (ends listed : List ℕ) (p start i : ℕ) → misplaced b ends listed p start i ≡ false →
     (getD listed (start + i) 0 < b) × (getD ends (2 * getD listed (start + i) 0 + 1) 0 ≡ p) × (0 < i → getD listed (start + i - 1) 0 < getD listed (start + i) 0)
@@ -200,7 +200,7 @@ module _ (m b : ℕ) (ends offsets listed : List ℕ) (o : OffsetsSound m b offs
       (eq-or-lt-of-le (le-of-suc-le-suc g))
 
   under-point : (k : ℕ) → k < b → (p : ℕ) × (p < m) × (getD offsets p 0 ≤ k) × (k < getD offsets (p + 1) 0)
-  under-point k l = under offsets m k (o .start) (rw (o .end) l)
+  under-point k l = locate (λ p. getD offsets p 0) m k (o .start) (rw (o .end) l)
 
   pub is-bearing : (k : ℕ) → k < b → getD listed k 0 < b
   is-bearing k l = let u = under-point k l in at-place (u .0) k (u .1) (u .2) (u .3) .0
