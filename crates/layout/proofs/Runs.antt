@@ -30,6 +30,9 @@ part-right xs ys k p n e = rw (← e) (ap (take n) (drop-append-add xs ys p))
 pub part-whole : (xs : List ℕ) (n : ℕ) → length xs ≡ n → part xs 0 n ≡ xs
 part-whole xs n e = take-all n xs (omega arith)
 
+pub part-first : (xs ys : List ℕ) (n : ℕ) → length xs ≡ n → part (xs ++ ys) 0 n ≡ xs
+part-first xs ys n e = part-left xs ys 0 n (omega arith) ∙ part-whole xs n e
+
 -- ---- runs
 
 pub run-ext : (n : ℕ) (g h : ℕ → List ℕ) → ((i : ℕ) → i < n → g i ≡ h i) → run n g ≡ run n h
@@ -62,6 +65,9 @@ part-run (suc n) w g j o k h q f =
     let s : w * j + w ≤ w * n = rw (← mul-suc) (mul-le-mul-left w l) in
     part-left (run n g) (g n) (w * j + o) k (omega (arith, length-run n w g h)) ∙ part-run n w g j o k h l f)
     (eq-or-lt-of-le (le-of-suc-le-suc q))
+
+pub part-piece : (n w : ℕ) (g : ℕ → List ℕ) (j : ℕ) → ((i : ℕ) → length (g i) ≡ w) → j < n → part (run n g) (w * j) w ≡ g j
+part-piece n w g j h q = ap (λ t. part (run n g) t w) (sym (add-zero (w * j))) ∙ part-run n w g j 0 w h q (omega arith) ∙ part-whole (g j) w (h j)
 
 -- a part in pieces of one width
 pub run-parts : (k w p : ℕ) (l : List ℕ) → run k (λ j. part l (p + w * j) w) ≡ part l p (w * k)

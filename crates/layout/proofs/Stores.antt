@@ -128,7 +128,7 @@ pub head-room : (s : Shape) (n : ℕ) → 52 + 48 * rows s + 24 * s .points ≤ 
 unfolding total
 head-room s n h = omega arith
 
-counts-wholes : (s : Shape) → wholes (s .cameras ∷ s .points ∷ s .bearings ∷ s .directions ∷ []) 0 4 ≡ countBytes s
+pub counts-wholes : (s : Shape) → wholes (s .cameras ∷ s .points ∷ s .bearings ∷ s .directions ∷ []) 0 4 ≡ countBytes s
 unfolding run countBytes
 counts-wholes s = simp append-assoc
 

@@ -3,7 +3,6 @@ use Prim.Native.Nat.{ℕ, _+_, _*_}
 use mathlib.Core.List.{List, [], _∷_, _++_, map}
 use lib.ListN.{length}
 use lib.Ieee.{Float}
-use Rattle.network.specs.Network.{rows}
 use Rattle.network.specs.declared.Shape.{Shape}
 use Rattle.layout.specs.Bytes.{bytesOf, run, wholes, doubles}
 
