@@ -205,7 +205,7 @@ read-written l lent left s held out r reads w =
     let i = read-back l lent (reads .bytes) (t .0) in
     record {
       answer = g .answer ∙ ap₂ writtenIf a (ap length i);
-      out = g .out ∙ ap₂ (λ v x. after v held (x ++ drop (length x) held)) a i;
+      bytes = g .out ∙ ap₂ (λ v x. after v held (x ++ drop (length x) held)) a i;
     }
 
 pub write-then-read : WriteThenRead

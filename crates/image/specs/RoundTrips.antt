@@ -14,24 +14,22 @@ use Rattle.layout.specs.Image.{Content}
 use Rattle.image.specs.Tests.{contentFits, roomTests}
 use Rattle.image.specs.Calls.{countsIf, writtenIf, after, Lists, contentWith, Stored, Reads, Writes}
 
--- What was written reads back the same: of the bytes that `write` was to leave of c, `read` answers c's counts and stores c's lists.
--- It refuses only lists of other lengths, as 3.
+-- A network that is written reads back the same: the answer is c's counts, and the lists are c's. Only lists of other lengths are refused, as 3.
 pub record ReadsBack (c : Content) (lent : Lists) (r : Counted) (left : Lists) : Type 0 where
   pub answer : r ≡ countsIf (verdict (lengthTests (contentFits (contentWith (c .shape) lent)))) (c .shape)
   pub stored : Stored (verdict (lengthTests (contentFits (contentWith (c .shape) lent)))) lent c left
 
--- What was read writes back to its own bytes: of the counts and lists that `read` left of l, `write` answers l's length and puts l at the front.
--- It refuses only fewer bytes, as 23.
-pub record WritesBack (l held : List ℕ) (r : Written) (left : List ℕ) : Type 0 where
-  pub answer : r ≡ writtenIf (verdict (roomTests (length held) (length l))) (length l)
-  pub out : left ≡ after (verdict (roomTests (length held) (length l))) held (l ++ drop (length l) held)
-
--- `write` answered k bytes and left `out`; `read` is given the first k of them
+-- `write` answered k bytes and left `out`; `read` is given the first k bytes of it
 pub record WriteThenRead : Type 0 where
   pub holds : (c : Content) (held out : List ℕ) (k : ℕ) (lent left : Lists) (r : Counted) →
       Writes c held (Bytes k) out → Reads (take k out) lent r left → ReadsBack c lent r left
 
--- `read` answered the counts s and left `left`; `write` is given them
+-- An image that is read writes back to its own bytes: the answer is l's length, and l stands at the front. Only too few bytes are refused, as 23.
+pub record WritesBack (l held : List ℕ) (r : Written) (out : List ℕ) : Type 0 where
+  pub answer : r ≡ writtenIf (verdict (roomTests (length held) (length l))) (length l)
+  pub bytes : out ≡ after (verdict (roomTests (length held) (length l))) held (l ++ drop (length l) held)
+
+-- `read` answered the counts s and left the lists `left`; `write` is given both
 pub record ReadThenWrite : Type 0 where
   pub holds : (l : List ℕ) (lent left : Lists) (s : Shape) (held out : List ℕ) (r : Written) →
       Reads l lent (Of s) left → Writes (contentWith s left) held r out → WritesBack l held r out
