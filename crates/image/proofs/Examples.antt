@@ -42,7 +42,9 @@ pub whole-size : length (image whole) ≡ 124
 unfolding image assembled joined pairs run rowBytes countBytes bytesOf
 whole-size = refl
 
-pub whole-pairs : (offsetAt (image whole) 0 ≡ 36) × (lengthAt (image whole) 0 ≡ 16) × (offsetAt (image whole) 1 ≡ 52) × (lengthAt (image whole) 1 ≡ 48) × (offsetAt (image whole) 2 ≡ 100) × (lengthAt (image whole) 2 ≡ 0) × (offsetAt (image whole) 3 ≡ 100) × (lengthAt (image whole) 3 ≡ 24)
+pub whole-pairs :
+    (offsetAt (image whole) 0 ≡ 36) × (lengthAt (image whole) 0 ≡ 16) × (offsetAt (image whole) 1 ≡ 52) × (lengthAt (image whole) 1 ≡ 48)
+    × (offsetAt (image whole) 2 ≡ 100) × (lengthAt (image whole) 2 ≡ 0) × (offsetAt (image whole) 3 ≡ 100) × (lengthAt (image whole) 3 ≡ 24)
 unfolding image assembled joined pairs run rowBytes countBytes bytesOf numberAt
 whole-pairs = (refl, refl, refl, refl, refl, refl, refl, refl)
 

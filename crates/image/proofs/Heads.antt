@@ -1,6 +1,6 @@
 -- Laws of an image's head: what each test says, and what the pairs say where 21 passes. Assumes nothing.
 use Prim.Native.Nat.{ℕ, zero, suc, _+_, _-_, _*_, _≤_, _<_}
-use mathlib.Core.Path.{_≡_, refl, sym, ap, _∙_}
+use mathlib.Core.Path.{_≡_, refl, sym, ap, ap₂, _∙_}
 use mathlib.Core.List.{List, [], _∷_}
 use mathlib.Core.Bool.{Bool, true, false, cond, not}
 use native.Mathlib.Omega.{arith}
@@ -12,12 +12,16 @@ use Rattle.field.specs.declared.Place.{Place}
 use Rattle.field.specs.declared.Place.the-variants.{At, Nowhere}
 use Rattle.field.specs.Count.{lowest, orElse}
 use Rattle.field.proofs.Counting.{none-of, lowest-zero, lowest-found}
-use Rattle.network.specs.Refusals.{test, testAt, andThen, verdict}
-use Rattle.network.proofs.Verdicts.{verdict-one, neither}
+use Rattle.double.proofs.Truth.{neither}
+use Rattle.network.specs.declared.Verdict.{Verdict}
+use Rattle.network.specs.declared.Verdict.the-variants.{Passed}
+use Rattle.network.specs.Refusals.{test, testAt}
+use Rattle.network.proofs.Verdicts.{test-passed, test-at-passed}
+use Rattle.network.specs.Network.{shape}
 use Rattle.layout.specs.Bytes.{u16At, u32At}
 use Rattle.layout.specs.Image.{headSize, sizes}
 use Rattle.image.specs.Reading.{offsetAt, lengthAt, startOf, shapeAt}
-use Rattle.image.specs.Tests.{badHead, badOffset, badPair, badLength, imageTests}
+use Rattle.image.specs.Tests.{badHead, badOffset, badPair, badLength}
 
 neither-place : (p q : Place) → orElse p q ≡ Nowhere → (p ≡ Nowhere) × (q ≡ Nowhere)
 neither-place (At i) q e = absurd (let z : _≡_ {A = ℕ} 0 1 = cc in omega arith)
@@ -51,37 +55,33 @@ pub start-first : (k : ℕ) (l : List ℕ) (i : ℕ) → i ≡ 0 → headSize k 
 unfolding startOf
 start-first k l i e = rw e
 
-pub start-next : (k : ℕ) (l : List ℕ) (i : ℕ) → (i ≡ 0 → ⊥) → offsetAt l (i - 1) + lengthAt l (i - 1) ≡ startOf k l i
+pub start-next : (k : ℕ) (l : List ℕ) (i : ℕ) {x y : ℕ} → (i ≡ 0 → ⊥) → x ≡ offsetAt l (i - 1) → y ≡ lengthAt l (i - 1) → x + y ≡ startOf k l i
 unfolding startOf
-start-next k l zero n = absurd (n refl)
-start-next k l (suc i) n = rw (sub-one (suc i))
+start-next k l zero n e f = absurd (n refl)
+start-next k l (suc i) n e f = ap₂ _+_ e f ∙ rw (sub-one (suc i))
 
 pub offset-off : (k : ℕ) (l : List ℕ) (i : ℕ) {x y : ℕ} → x ≡ offsetAt l i → y ≡ startOf k l i → not (eqb x y) ≡ badOffset k l i
 unfolding badOffset
 offset-off k l i e f = rw (e, f)
 
-pub pair-offset : (k : ℕ) (l : List ℕ) (i : ℕ) → lowest (badOffset k l) k ≡ At i → At i ≡ badPair k l
-unfolding badPair
-pair-offset k l i e = rw e
+module _ (k : ℕ) (l : List ℕ) {x : Place} (e : x ≡ lowest (badOffset k l) k) where
+  pub pair-offset : (i : ℕ) → x ≡ At i → At i ≡ badPair k l
+  unfolding badPair
+  pair-offset i h = rw (sym e ∙ h)
 
-pub pair-end : (k : ℕ) (l : List ℕ) → lowest (badOffset k l) k ≡ Nowhere → startOf k l k ≡ length l → Nowhere ≡ badPair k l
-unfolding badPair
-pair-end k l e h = rw (e, eq-eqb _ _ h)
+  pub pair-end : (y : ℕ) → x ≡ Nowhere → y ≡ startOf k l k → y ≡ length l → Nowhere ≡ badPair k l
+  unfolding badPair
+  pair-end y h f g = rw (sym e ∙ h, eq-eqb (startOf k l k) (length l) (sym f ∙ g))
 
-pub pair-last : (k : ℕ) (l : List ℕ) → lowest (badOffset k l) k ≡ Nowhere → (startOf k l k ≡ length l → ⊥) → At (k - 1) ≡ badPair k l
-unfolding badPair
-pair-last k l e h = rw (e, ne-eqb _ _ h)
+  pub pair-last : (y : ℕ) → x ≡ Nowhere → y ≡ startOf k l k → (y ≡ length l → ⊥) → At (k - 1) ≡ badPair k l
+  unfolding badPair
+  pair-last y h f g = rw (sym e ∙ h, ne-eqb (startOf k l k) (length l) (λ q. g (f ∙ q)))
 
 -- ---- 22
 
-module _ (sizes l : List ℕ) (i : ℕ) {x : ℕ} (e : x ≡ lengthAt l i) where
-  pub length-off : (x ≡ getD sizes i 0 → ⊥) → badLength sizes l i ≡ true
-  unfolding badLength
-  length-off n = rw (ne-eqb (lengthAt l i) (getD sizes i 0) (λ q. n (e ∙ q)))
-
-  pub length-right : x ≡ getD sizes i 0 → badLength sizes l i ≡ false
-  unfolding badLength
-  length-right q = rw (eq-eqb (lengthAt l i) (getD sizes i 0) (sym e ∙ q))
+pub length-is : (sizes l : List ℕ) (i : ℕ) {x : ℕ} → x ≡ lengthAt l i → not (eqb x (getD sizes i 0)) ≡ badLength sizes l i
+unfolding badLength
+length-is sizes l i e = rw e
 
 -- ---- where 21 passes
 
@@ -105,20 +105,24 @@ module _ (k : ℕ) (l : List ℕ) (e : badPair k l ≡ Nowhere) where
 
 pub four-pairs : (l : List ℕ) → badPair 4 l ≡ Nowhere → length l ≡ 36 + (lengthAt l 0 + (lengthAt l 1 + (lengthAt l 2 + lengthAt l 3)))
 four-pairs l e =
-    omega (arith, start-first 4 l 0 refl, start-step 4 l e 0 (omega arith), start-step 4 l e 1 (omega arith), start-step 4 l e 2 (omega arith), start-step 4 l e 3 (omega arith), last-ends 4 l e)
+    let step = start-step 4 l e in
+    omega (arith, start-first 4 l 0 refl, step 0 (omega arith), step 1 (omega arith), step 2 (omega arith), step 3 (omega arith), last-ends 4 l e)
+
+pub shape-is : (p : ℕ) (l : List ℕ) {n m b e : ℕ} → n ≡ u32At l p → m ≡ u32At l (p + 4) → b ≡ u32At l (p + 8) → e ≡ u32At l (p + 12) → shape n m b e ≡ shapeAt p l
+shape-is p l h k q r = rw (h, k, q, r)
 
 pub counts-there : (l : List ℕ) → badPair 4 l ≡ Nowhere → {x : ℕ} → x ≡ lengthAt l 0 → x ≡ 16 → 52 ≤ length l
 counts-there l e f h = omega (arith, four-pairs l e)
 
 pub section-first : (l : List ℕ) {x : ℕ} → x ≡ lengthAt l 0 → (x ≡ 16 → ⊥) → At 0 ≡ lowest (badLength (sizes (shapeAt 36 l)) l) 4
-section-first l e n = sym (lowest-found (badLength (sizes (shapeAt 36 l)) l) 0 4 (lowest-zero (badLength (sizes (shapeAt 36 l)) l)) (length-off (sizes (shapeAt 36 l)) l 0 e n) (omega arith))
+unfolding badLength
+section-first l {x} e n =
+    let p = badLength (sizes (shapeAt 36 l)) l in
+    sym (lowest-found p 0 4 (lowest-zero p) (ap not (ne-eqb (lengthAt l 0) 16 (λ q. n (e ∙ q)))) (omega arith))
 
-pub section-sizes : (l : List ℕ) {m b e : ℕ} → m ≡ u32At l 40 → b ≡ u32At l 44 → e ≡ u32At l 48 → lowest (badLength (16 ∷ 48 * b ∷ 48 * e ∷ 24 * m ∷ []) l) 4 ≡ lowest (badLength (sizes (shapeAt 36 l)) l) 4
-section-sizes l e f g = rw (e, f, g)
-
-pub image-verdict : (l : List ℕ) → verdict (imageTests l) ≡ andThen (test 20 (badHead 1 4 l)) (andThen (testAt 21 (badPair 4 l)) (testAt 22 (lowest (badLength (sizes (shapeAt 36 l)) l) 4)))
-unfolding imageTests verdict
-image-verdict l = ap (λ t. andThen (test 20 (badHead 1 4 l)) (andThen (testAt 21 (badPair 4 l)) t)) (verdict-one (testAt 22 (lowest (badLength (sizes (shapeAt 36 l)) l) 4)))
+pub counted-sizes : (l : List ℕ) {x : Place} {m b e : ℕ} → x ≡ lowest (badLength (16 ∷ 48 * b ∷ 48 * e ∷ 24 * m ∷ []) l) 4 →
+    m ≡ u32At l 40 → b ≡ u32At l 44 → e ≡ u32At l 48 → x ≡ lowest (badLength (sizes (shapeAt 36 l)) l) 4
+counted-sizes l h e f g = h ∙ rw (e, f, g)
 
 pub head-long : (version k : ℕ) (l : List ℕ) → badHead version k l ≡ false → (headSize k ≤ length l) × (u16At l 0 ≡ version) × (u16At l 2 ≡ k)
 unfolding badHead
@@ -126,3 +130,10 @@ head-long version k l e =
     let a = neither _ _ e in
     let b = neither _ _ (a .1) in
     (ltb-false _ _ (a .0), eqb-true _ _ (not-false _ (b .0)), eqb-true _ _ (not-false _ (b .1)))
+
+-- a function that made test 20, or 21, and goes on
+pub head-passed : (version k n : ℕ) (l : List ℕ) {x : Verdict} {b : Bool} → x ≡ test 20 b → x ≡ Passed → b ≡ badHead version k l → headSize k ≡ n → n ≤ length l
+head-passed version k n l e h q f = omega (arith, head-long version k l (sym q ∙ test-passed 20 _ (sym e ∙ h)) .0)
+
+pub pairs-passed : (k : ℕ) (l : List ℕ) {x : Verdict} {p : Place} → x ≡ testAt 21 p → x ≡ Passed → p ≡ badPair k l → badPair k l ≡ Nowhere
+pairs-passed k l e h q = sym q ∙ test-at-passed 21 _ (sym e ∙ h)

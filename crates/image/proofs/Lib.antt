@@ -1,3 +1,4 @@
+pub mod Searches
 pub mod Heads
 pub mod Domain
 pub mod Fills

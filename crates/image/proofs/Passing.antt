@@ -1,75 +1,91 @@
--- What the reader knows where its tests refuse nothing, and its tests in order. Assumes nothing.
+-- What the calls know where their tests refuse nothing, and what they then answer. Assumes nothing.
 use Prim.Native.Nat.{ℕ, zero, suc, _+_, _*_, _/_, _%_, _≤_, _<_}
-use mathlib.Core.Path.{_≡_, refl, sym, ap, subst, _∙_}
-use mathlib.Core.List.{List, [], _∷_}
-use mathlib.Core.Bool.{Bool, true, false, cond, not, _&&_}
+use mathlib.Core.Path.{_≡_, refl, sym, ap, _∙_}
+use mathlib.Core.List.{List, [], _++_}
+use mathlib.Core.Bool.{Bool, true, false, cond}
 use native.Mathlib.Omega.{arith}
 use native.Mathlib.Nat.{add-zero}
 use lib.ListN.{length, getD}
-use lib.Dec.{eqb, ltb}
+use mir.Syntax.{w8}
+use mir.Val.{Fits}
+use lib.Dec.{ltb}
 use lib.Ieee.{Float, nan}
 use lib.Ieee.Scale.{finite}
 use borrow.Author.Tests.{eqb-true, ltb-false, not-false}
-use Rattle.field.specs.declared.Place.{Place}
 use Rattle.field.specs.declared.Place.the-variants.{At, Nowhere}
-use Rattle.field.specs.Vec.{X, Y, Z, on}
+use Rattle.field.specs.Vec.{Axis, X, Y, Z, on}
 use Rattle.field.specs.Buffer.{get, vector, write}
 use Rattle.field.proofs.Counting.{none-of}
 use Rattle.field.proofs.Buffers.{get-vector}
 use Rattle.network.specs.declared.Verdict.{Verdict}
 use Rattle.network.specs.declared.Verdict.the-variants.{Refused, Passed}
 use Rattle.network.specs.declared.Refusal.{Refusal}
-use Rattle.network.specs.Network.{shape, rows}
 use Rattle.network.specs.declared.Shape.{Shape}
-use Rattle.network.specs.Refusals.{test, testAt, andThen, verdict, section, running, countTests, endsFit, raysFit, badVector}
-use Rattle.network.specs.Sound.{ShapeSound}
-use Rattle.network.proofs.Verdicts.{verdict-append, verdict-one, then-assoc, then-passed, test-passed, test-at-passed, both-true}
-use Rattle.network.proofs.Sections.{running-passed, running-empty}
-use Rattle.network.proofs.Sound.{counts-sound, row-domain, weight-domain, scale-domain, vector-domain}
-use Rattle.layout.specs.Image.{Content, content, Lengths, sizes, image}
-use Rattle.image.specs.Reading.{lengthAt, shapeAt, raysFrom, weightsFrom, scalesFrom, pointsFrom, contentFrom, contentOf, Sound, Filled}
-use Rattle.image.specs.Tests.{badHead, badPair, badLength, imageTests, contentFits, rowTests, contentTests, countsTests, readTests, shorter, writeTests}
-use Rattle.image.specs.declared.Sizes.{Sizes}
-use Rattle.image.specs.declared.Counted.the-variants.{Refused as NoCounts, Of}
-use Rattle.image.specs.declared.Written.the-variants.{Refused as NotWritten, Bytes}
-use Rattle.image.specs.Calls.{sizesOf, countsIf, after, countsOf, readVerdict, Reads, writtenIf, writeVerdict, Writes}
-use Rattle.image.proofs.Heads.{image-verdict, four-pairs}
-use Rattle.image.proofs.Domain.{rows-verdict, double-near}
+use Rattle.network.specs.Network.{rows}
+use Rattle.network.specs.Refusals.{verdict, countTests, lengthTests, contentFits as fits, endTests, domainTests, badWeight, badScale, badVector}
+use Rattle.network.specs.inner.Sound.{ShapeSound, ContentLengths}
+use Rattle.network.proofs.Verdicts.{verdict-one, first-passed, stage-passed, test-passed, test-at-passed}
+use Rattle.network.proofs.Sound.{counts-sound, lengths-fit, content-fits, domain-sound, row-domain, weight-domain, scale-domain, vector-domain}
+use Rattle.layout.specs.Bytes.{AreBytes, AreDoubles}
+use Rattle.layout.specs.Image.{Content, content, sizes, image}
 use Rattle.layout.proofs.Runs.{length-image}
 use Rattle.layout.proofs.Stores.{image-front}
+use Rattle.image.specs.declared.Counted.the-variants.{Refused as NoCounts, Of}
+use Rattle.image.specs.declared.Written.the-variants.{Refused as NotWritten, Bytes}
+use Rattle.image.specs.Reading.{lengthAt, shapeAt, raysFrom, weightsFrom, scalesFrom, pointsFrom, contentFrom, contentOf}
+use Rattle.image.specs.Tests.{badLength, imageTests, contentFits, contentSections, rowTests, shorter, roomTests, countsTests, readTests, writeTests}
+use Rattle.image.specs.Calls.{countsIf, writtenIf, after, countsOf, Lists, lists, contentWith, readVerdict, Reads, HoldsDoubles, writeVerdict, Writes}
+use Rattle.image.specs.inner.Sound.{ImageSound, ContentReadable, Filled, ReadSound, WriteSound}
+use Rattle.image.proofs.Heads.{four-pairs}
+use Rattle.image.proofs.Domain.{double-read}
 
 -- ---- 20 to 22
 
-pub record ImageSound (l : List ℕ) : Type 0 where
-  pub head : badHead 1 4 l ≡ false
-  pub pairs : badPair 4 l ≡ Nowhere
-  pub lengths : (i : ℕ) → i < 4 → lengthAt l i ≡ getD (sizes (shapeAt 36 l)) i 0
-  pub size : length l ≡ 52 + 48 * rows (shapeAt 36 l) + 24 * shapeAt 36 l .points
-
 pub image-sound : (l : List ℕ) → verdict (imageTests l) ≡ Passed → ImageSound l
-unfolding badLength
+unfolding imageTests badLength
 image-sound l e =
-    let a = then-passed _ _ (sym (image-verdict l) ∙ e) in
-    let b = then-passed _ _ (a .1) in
+    let a = first-passed _ _ e in
+    let b = first-passed _ _ (a .1) in
     let p = test-at-passed 21 _ (b .0) in
-    let lengths : (i : ℕ) → i < 4 → lengthAt l i ≡ getD (sizes (shapeAt 36 l)) i 0 = λ i k. eqb-true _ _ (not-false _ (none-of (badLength (sizes (shapeAt 36 l)) l) 4 (test-at-passed 22 _ (b .1)) i k)) in
+    let q = test-at-passed 22 _ (sym (verdict-one _) ∙ b .1) in
+    let n : (i : ℕ) → i < 4 → lengthAt l i ≡ getD (sizes (shapeAt 36 l)) i 0 = λ i k. eqb-true _ _ (not-false _ (none-of _ 4 q i k)) in
     record {
       head = test-passed 20 _ (a .0);
       pairs = p;
-      lengths = lengths;
-      size = omega (arith, four-pairs l p, lengths 0 (omega arith), lengths 1 (omega arith), lengths 2 (omega arith), lengths 3 (omega arith));
+      lengths = n;
+      size = omega (arith, four-pairs l p, n 0 (omega arith), n 1 (omega arith), n 2 (omega arith), n 3 (omega arith));
     }
+
+module _ (l : List ℕ) {x : Verdict} (e : x ≡ verdict (imageTests l)) (h : x ≡ Passed) where
+  pub image-long : 52 ≤ length l
+  image-long = omega (arith, image-sound l (sym e ∙ h) .size)
+
+  pub rows-there : {s : Shape} → s ≡ shapeAt 36 l → 52 + 48 * rows s + 24 * s .points ≤ length l
+  rows-there k = rw k (omega (arith, image-sound l (sym e ∙ h) .size))
+
+-- ---- stages of what was read
+
+pub counts-is : {s t : Shape} {x : Verdict} → x ≡ verdict (countTests s) → s ≡ t → x ≡ verdict (countTests t)
+counts-is e h = e ∙ ap (λ t. verdict (countTests t)) h
+
+pub lengths-is : {a b : Bool} {x : Verdict} → x ≡ verdict (lengthTests a) → a ≡ b → x ≡ verdict (lengthTests b)
+lengths-is e h = e ∙ ap (λ t. verdict (lengthTests t)) h
+
+pub shaped-is : (l es : List ℕ) (rs ws ss ps : List Float) {s : Shape} {x : Verdict} →
+    x ≡ verdict (countTests s ++ (lengthTests (fits s es rs ws ss ps) ++ rowTests (contentFrom 52 s l))) → s ≡ shapeAt 36 l →
+    x ≡ verdict (countTests (shapeAt 36 l) ++ (lengthTests (fits (shapeAt 36 l) es rs ws ss ps) ++ rowTests (contentOf l)))
+shaped-is l es rs ws ss ps e h = e ∙ ap (λ s. verdict (countTests s ++ (lengthTests (fits s es rs ws ss ps) ++ rowTests (contentFrom 52 s l)))) h
 
 -- ---- 7
 
 -- vectors that are all finite are finite numbers
-pub vectors-finite : (v : List Float) (n : ℕ) → ((i : ℕ) → i < n → badVector v i ≡ false) → (k : ℕ) → k < 3 * n → finite (getD v k nan) ≡ true
+vectors-finite : (v : List Float) (n : ℕ) → ((i : ℕ) → i < n → badVector v i ≡ false) → (k : ℕ) → k < 3 * n → finite (getD v k nan) ≡ true
 vectors-finite v n f k h = rw e (go (k % 3) (omega arith))
   where
     e : k ≡ 3 * (k / 3) + k % 3
     e = omega arith
 
-    at : (a : Rattle.field.specs.Vec.Axis) → finite (on a (get vector v (3 * (k / 3)))) ≡ true
+    at : (a : Axis) → finite (on a (get vector v (3 * (k / 3)))) ≡ true
     at = vector-domain v (k / 3) (f (k / 3) (omega arith))
 
     go : (j : ℕ) → j < 3 → finite (getD v (3 * (k / 3) + j) nan) ≡ true
@@ -78,166 +94,143 @@ vectors-finite v n f k h = rw e (go (k % 3) (omega arith))
     go (suc (suc zero)) q = rw (get-vector v (3 * (k / 3))) at (at Z)
     go (suc (suc (suc j))) q = absurd (omega arith)
 
-pub content-sound : (p : ℕ) (s : Shape) (l : List ℕ) → verdict (rowTests (contentFrom p s l)) ≡ Passed → p + 48 * rows s + 24 * s .points ≤ length l → Sound p (rows s) (s .points) l
-unfolding contentFrom
-content-sound p s l e h =
-    let a = then-passed _ _ (sym (rows-verdict (contentFrom p s l)) ∙ e) in
-    let b = running-passed _ _ _ (test-at-passed 7 _ (a .1)) in
-    let d = running-passed _ _ _ (b .1) in
-    let row : (r : ℕ) → r < rows s → _ = λ r k. row-domain (weightsFrom p (rows s) l) (scalesFrom p (rows s) l) (raysFrom p (rows s) l) r (b .0 r k) in
+pub content-readable : (p : ℕ) (s : Shape) (l : List ℕ) → verdict (rowTests (contentFrom p s l)) ≡ Passed → p + 48 * rows s + 24 * s .points ≤ length l → ContentReadable p s l
+unfolding rowTests contentFrom
+content-readable p s l e h =
+    let r = rows s in
+    let rs = raysFrom p r l in
+    let ws = weightsFrom p r l in
+    let ss = scalesFrom p r l in
+    let ps = pointsFrom (p + 48 * r) (s .points) l in
+    let d = domain-sound s rs ws ss ps [] (stage-passed (endTests s _) _ e .1) in
+    let row : (i : ℕ) → i < r → (badWeight ws i ≡ false) × (badScale ss i ≡ false) × (badVector rs i ≡ false) = λ i k. row-domain ws ss rs i (d .0 i k) in
     record {
       there = h;
-      rays = λ k q. (omega arith, rw (double-near (p + 8) 48 3 (3 * rows s) k l q) at (vectors-finite (raysFrom p (rows s) l) (rows s) (λ i g. row i g .2) k q));
-      weights = λ k q. (omega arith, rw (double-near (p + 32) 48 1 (rows s) k l q) at (weight-domain (weightsFrom p (rows s) l) k (row k q .0) .0));
-      scales = λ k q. (omega arith, rw (double-near (p + 40) 48 1 (rows s) k l q) at (scale-domain (scalesFrom p (rows s) l) k (row k q .1) .0));
-      positions = λ k q. (omega arith, rw (double-near (p + 48 * rows s) 24 3 (3 * s .points) k l q) at (vectors-finite (pointsFrom (p + 48 * rows s) (s .points) l) (s .points) (d .0) k q));
+      rays = record { there = λ k q. omega arith; number = λ k q. rw (double-read (p + 8) 48 3 (3 * r) k l q) at (vectors-finite rs r (λ i g. row i g .2) k q) };
+      weights = record { there = λ k q. omega arith; number = λ k q. rw (double-read (p + 32) 48 1 r k l q) at (weight-domain ws k (row k q .0) .0) };
+      scales = record { there = λ k q. omega arith; number = λ k q. rw (double-read (p + 40) 48 1 r k l q) at (scale-domain ss k (row k q .1) .0) };
+      positions = record { there = λ k q. omega arith; number = λ k q. rw (double-read (p + 48 * r) 24 3 (3 * s .points) k l q) at (vectors-finite ps (s .points) (d .1) k q) };
     }
 
--- ---- the tests in order
+-- ---- the counts
 
-pub sizes-verdict : (l : List ℕ) → verdict (countsTests l) ≡ andThen (verdict (imageTests l)) (verdict (countTests (shapeAt 36 l)))
+pub counted-sound : (l : List ℕ) → verdict (countsTests l) ≡ Passed → ImageSound l × ShapeSound (shapeAt 36 l)
 unfolding countsTests
-sizes-verdict l = verdict-append _ _
+counted-sound l e = let a = stage-passed (imageTests l) _ e in (image-sound l (a .0), counts-sound _ (a .1))
 
-pub read-verdict : (l : List ℕ) (lent : Content) → readVerdict l lent ≡ andThen (verdict (countsTests l)) (andThen (test 3 (not (contentFits lent))) (verdict (rowTests (contentOf l))))
-unfolding readVerdict readTests contentTests countsTests contentFrom
-read-verdict l lent = simp (verdict-append, verdict-one, then-assoc)
+module _ (l : List ℕ) {x : Verdict} (e : x ≡ verdict (countsTests l)) where
+  pub counted-long : x ≡ Passed → 52 ≤ length l
+  counted-long h = omega (arith, counted-sound l (sym e ∙ h) .0 .size)
 
-pub content-verdict : (c : Content) (fit : Bool) → verdict (contentTests c fit) ≡ andThen (verdict (countTests (c .shape))) (andThen (test 3 (not fit)) (verdict (rowTests c)))
-unfolding contentTests
-content-verdict c fit = simp (verdict-append, verdict-one)
+  pub counts-refused : {r : Refusal} → x ≡ Refused r → NoCounts r ≡ countsOf l
+  unfolding countsOf countsIf
+  counts-refused h = rw (sym e ∙ h)
 
-pub write-verdict : (c : Content) (room : ℕ) → verdict (writeTests c room) ≡ andThen (verdict (contentTests c (contentFits c))) (testAt 23 (shorter room (length (image c))))
-unfolding writeTests
-write-verdict c room = simp (verdict-append, verdict-one)
-
--- ---- the counts as they are read
-
-pub sizes-shape : {x : Sizes} (s : Shape) → x ≡ sizesOf s → shape (x .n) (x .m) (x .b) (x .e) ≡ s
-sizes-shape s e = ap (λ (t : Sizes). shape (t .n) (t .m) (t .b) (t .e)) e
-
-pub sizes-sound : (l : List ℕ) → verdict (countsTests l) ≡ Passed → ImageSound l × ShapeSound (shapeAt 36 l)
-sizes-sound l e = let a = then-passed _ _ (sym (sizes-verdict l) ∙ e) in (image-sound l (a .0), counts-sound _ (a .1))
-
-pub shape-known : {x : Sizes} (l : List ℕ) → x ≡ sizesOf (shapeAt 36 l) → verdict (countsTests l) ≡ Passed → ShapeSound (shape (x .n) (x .m) (x .b) (x .e))
-shape-known l e h = subst ShapeSound (sym (sizes-shape (shapeAt 36 l) e)) (sizes-sound l h .1)
-
-pub size-known : {x : Sizes} (l : List ℕ) → x ≡ sizesOf (shapeAt 36 l) → verdict (countsTests l) ≡ Passed → length l ≡ 52 + 48 * (x .b + x .e) + 24 * x .m
-size-known l e h = sizes-sound l h .0 .size ∙ ap (λ (t : Sizes). 52 + 48 * (t .b + t .e) + 24 * t .m) (sym e)
-
-pub counts-refused : (l : List ℕ) {x : Verdict} {r : Refusal} → x ≡ verdict (countsTests l) → x ≡ Refused r → NoCounts r ≡ countsOf l
-unfolding countsOf countsIf
-counts-refused l e h = rw (sym e ∙ h)
-
-pub counts-passed : (l : List ℕ) {x : Verdict} {s : Sizes} → x ≡ verdict (countsTests l) → x ≡ Passed → s ≡ sizesOf (shapeAt 36 l) → Of s ≡ countsOf l
-unfolding countsOf countsIf
-counts-passed l e h k = rw (sym e ∙ h) (ap Of k)
-
--- ---- 3
-
-pub fit-known : {x : Sizes} (s : Shape) (ends : List ℕ) (rays weights scales positions : List Float) {fit : Bool} → x ≡ sizesOf s →
-    fit ≡ endsFit (x .b + x .e) ends weights && (raysFit (x .b + x .e) rays scales && eqb (length positions) (3 * x .m)) → fit ≡ contentFits (content s ends rays weights scales positions)
-unfolding contentFits
-fit-known s ends rays weights scales positions e f = f ∙ ap (λ (t : Sizes). endsFit (t .b + t .e) ends weights && (raysFit (t .b + t .e) rays scales && eqb (length positions) (3 * t .m))) e
-
-pub lengths-of : (r m : ℕ) (es : List ℕ) (rs ws ss ps : List Float) → (endsFit r es ws && (raysFit r rs ss && eqb (length ps) (3 * m))) ≡ true → Lengths r m es rs ws ss ps
-unfolding endsFit raysFit
-lengths-of r m es rs ws ss ps e =
-    let a = both-true _ _ e in
-    let b = both-true _ _ (a .0) in
-    let d = both-true _ _ (a .1) in
-    let f = both-true _ _ (d .0) in
-    record { ends = eqb-true _ _ (b .0); weights = eqb-true _ _ (b .1); rays = eqb-true _ _ (f .0); scales = eqb-true _ _ (f .1); positions = eqb-true _ _ (d .1) }
-
-pub fit-lengths : (c : Content) → contentFits c ≡ true → Lengths (rows (c .shape)) (c .shape .points) (c .ends) (c .rays) (c .weights) (c .scales) (c .positions)
-unfolding contentFits
-fit-lengths c e = lengths-of _ _ _ _ _ _ _ e
-
-pub test-three : (b : Bool) → test 3 (not b) ≡ Passed → b ≡ true
-test-three b e = not-false b (test-passed 3 _ e)
-
--- ---- 4, 5 and 7
-
-pub rows-known : {x : Sizes} (l : List ℕ) {v : Verdict} → x ≡ sizesOf (shapeAt 36 l) → v ≡ verdict (rowTests (contentFrom 52 (shape (x .n) (x .m) (x .b) (x .e)) l)) → v ≡ verdict (rowTests (contentOf l))
-rows-known l e f = f ∙ ap (λ t. verdict (rowTests (contentFrom 52 t l))) (sizes-shape (shapeAt 36 l) e)
+  pub counts-passed : {s : Shape} → x ≡ Passed → s ≡ shapeAt 36 l → Of s ≡ countsOf l
+  unfolding countsOf countsIf
+  counts-passed h k = rw (sym e ∙ h) (ap Of k)
 
 -- ---- a read
 
-pub read-refused : (l : List ℕ) (lent : Content) {x : Verdict} {r : Refusal} → x ≡ readVerdict l lent → x ≡ Refused r → Reads l lent (NoCounts r) lent
-unfolding countsIf after
-read-refused l lent {r = r} e h =
-    let v : readVerdict l lent ≡ Refused r = sym e ∙ h in
-    record { answer = rw v; ends = rw v; rays = rw v; weights = rw v; scales = rw v; positions = rw v }
+pub are-bytes : (l : List ℕ) → ((k : ℕ) → Fits w8 (getD l k 0)) → AreBytes l
+are-bytes l f k = omega (arith, f k)
 
-module _ (l : List ℕ) (lent : Content) {x : Verdict} (e : x ≡ readVerdict l lent) (h : x ≡ Passed) where
-  parts : (verdict (countsTests l) ≡ Passed) × (test 3 (not (contentFits lent)) ≡ Passed) × (verdict (rowTests (contentOf l)) ≡ Passed)
-  parts =
-      let a = then-passed _ _ (sym (read-verdict l lent) ∙ (sym e ∙ h)) in
-      let b = then-passed _ _ (a .1) in
-      (a .0, b .0, b .1)
+pub read-sound : (l : List ℕ) (lent : Lists) → readVerdict l lent ≡ Passed → ReadSound l lent
+unfolding readVerdict readTests
+read-sound l lent e =
+    let a = stage-passed (imageTests l) _ e in
+    let b = stage-passed (countTests (shapeAt 36 l)) _ (a .1) in
+    let d = stage-passed (lengthTests (contentFits (contentWith (shapeAt 36 l) lent))) _ (b .1) in
+    let i = image-sound l (a .0) in
+    record {
+      image = i;
+      shape = counts-sound _ (b .0);
+      lengths = content-fits _ _ _ _ _ _ (lengths-fit _ (d .0));
+      readable = content-readable 52 (shapeAt 36 l) l (d .1) (omega (arith, i .size));
+    }
 
-  pub read-sizes : verdict (countsTests l) ≡ Passed
-  read-sizes = parts .0
+module _ (l es : List ℕ) (rs ws ss ps : List Float) {x : Verdict} (e : x ≡ readVerdict l (lists es rs ws ss ps)) where
+  pub read-refused : {r : Refusal} → x ≡ Refused r → AreBytes l → Reads l (lists es rs ws ss ps) (NoCounts r) (lists es rs ws ss ps)
+  unfolding countsIf after
+  read-refused {r} h b =
+      let v : readVerdict l (lists es rs ws ss ps) ≡ Refused r = sym e ∙ h in
+      record { answer = rw v; stored = record { ends = rw v; rays = rw v; weights = rw v; scales = rw v; positions = rw v }; bytes = b }
 
-  pub read-lengths : lent .shape ≡ shapeAt 36 l → {s : Sizes} → s ≡ sizesOf (shapeAt 36 l) → Lengths (s .b + s .e) (s .m) (lent .ends) (lent .rays) (lent .weights) (lent .scales) (lent .positions)
-  read-lengths q k = subst (λ (t : Sizes). Lengths (t .b + t .e) (t .m) (lent .ends) (lent .rays) (lent .weights) (lent .scales) (lent .positions)) (ap sizesOf q ∙ sym k) (fit-lengths lent (test-three _ (parts .1)))
+  pub read-ready : x ≡ Passed → ReadSound l (lists es rs ws ss ps)
+  read-ready h = read-sound l _ (sym e ∙ h)
 
-  pub read-sound : {s : Sizes} → s ≡ sizesOf (shapeAt 36 l) → Sound 52 (s .b + s .e) (s .m) l
-  read-sound k =
-      let z = sizes-sound l (parts .0) .0 .size in
-      subst (λ (t : Sizes). Sound 52 (t .b + t .e) (t .m) l) (sym k) (content-sound 52 (shapeAt 36 l) l (parts .2) (omega arith))
-
-  pub read-passed : {s : Sizes} (es : List ℕ) (rs ws ss ps : List Float) → s ≡ sizesOf (shapeAt 36 l) → Filled 52 (s .b + s .e) (s .m) l es rs ws ss ps → Reads l lent (Of s) (content (shapeAt 36 l) es rs ws ss ps)
+  pub read-passed : (es' : List ℕ) (rs' ws' ss' ps' : List Float) {s : Shape} →
+      x ≡ Passed → s ≡ shapeAt 36 l → Filled 52 s l es' rs' ws' ss' ps' → AreBytes l → Reads l (lists es rs ws ss ps) (Of s) (lists es' rs' ws' ss' ps')
   unfolding countsIf after contentFrom
-  read-passed es rs ws ss ps k f =
-      let v : readVerdict l lent ≡ Passed = sym e ∙ h in
-      let g = subst (λ (t : Sizes). Filled 52 (t .b + t .e) (t .m) l es rs ws ss ps) k f in
-      record { answer = rw v (ap Of k); ends = rw v (g .ends); rays = rw v (g .rays); weights = rw v (g .weights); scales = rw v (g .scales); positions = rw v (g .positions) }
+  read-passed es' rs' ws' ss' ps' h k f b =
+      let v : readVerdict l (lists es rs ws ss ps) ≡ Passed = sym e ∙ h in
+      let g : Filled 52 (shapeAt 36 l) l es' rs' ws' ss' ps' = rw k at f in
+      record {
+        answer = rw v (ap Of k);
+        stored = record { ends = rw v (g .ends); rays = rw v (g .rays); weights = rw v (g .weights); scales = rw v (g .scales); positions = rw v (g .positions) };
+        bytes = b;
+      }
 
--- ---- a write
+-- a function that stores what was read
+module _ (l es : List ℕ) (rs ws ss ps : List Float) {s : Shape} (R : ReadSound l (lists es rs ws ss ps)) (k : s ≡ shapeAt 36 l) where
+  pub read-readable : ContentReadable 52 s l
+  read-readable = rw k (R .readable)
 
-pub content-shape : (c : Content) (fit : Bool) → verdict (contentTests c fit) ≡ Passed → ShapeSound (c .shape)
-content-shape c fit e = counts-sound (c .shape) (then-passed _ _ (sym (content-verdict c fit) ∙ e) .0)
+  pub read-lengths : ContentLengths s es rs ws ss ps
+  read-lengths = rw k (R .lengths)
 
-pub content-fits : (c : Content) (fit : Bool) → verdict (contentTests c fit) ≡ Passed → fit ≡ true
-content-fits c fit e = test-three fit (then-passed _ _ (then-passed _ _ (sym (content-verdict c fit) ∙ e) .1) .0)
+-- ---- 23
 
--- no camera positions are lent
-pub no-cameras : (r m : ℕ) (a b p : ℕ → Bool) {x : Place} → x ≡ running (section r a ∷ section m b ∷ section 0 p ∷ []) → x ≡ running (section r a ∷ section m b ∷ [])
-no-cameras r m a b p e = e ∙ running-empty (section r a ∷ section m b ∷ []) p
+pub room-is : (s : Shape) (es : List ℕ) (rs ws ss ps : List Float) (room : ℕ) {n : ℕ} {x : Verdict} → x ≡ verdict (roomTests room n) → n ≡ 52 + 48 * rows s + 24 * s .points →
+    x ≡ verdict (roomTests room (length (image (content s es rs ws ss ps))))
+room-is s es rs ws ss ps room e h = e ∙ ap (λ t. verdict (roomTests room t)) (h ∙ sym (length-image (content s es rs ws ss ps)))
 
-pub short-of : (c : Content) (room : ℕ) {x : Place} → x ≡ shorter room (52 + 48 * rows (c .shape) + 24 * c .shape .points) → x ≡ shorter room (length (image c))
-short-of c room e = e ∙ ap (shorter room) (sym (length-image c))
-
-pub room-enough : (room needed : ℕ) → shorter room needed ≡ Nowhere → needed ≤ room
-unfolding shorter
-room-enough room needed e = go (ltb room needed) refl e
+pub room-enough : (room needed : ℕ) → verdict (roomTests room needed) ≡ Passed → needed ≤ room
+unfolding roomTests shorter
+room-enough room needed e = go (ltb room needed) refl (test-at-passed 23 _ (sym (verdict-one _) ∙ e))
   where
     go : (b : Bool) → ltb room needed ≡ b → cond b (At needed) Nowhere ≡ Nowhere → needed ≤ room
     go true h f = absurd (let z : _≡_ {A = ℕ} 0 1 = cc in omega arith)
     go false h f = ltb-false room needed h
 
-pub write-refused : (c : Content) (held : List ℕ) {x : Verdict} {r : Refusal} → x ≡ verdict (writeTests c (length held)) → x ≡ Refused r → Writes c held (NotWritten r) held
-unfolding writeVerdict writtenIf after
-write-refused c held {r = r} e h =
-    let v : verdict (writeTests c (length held)) ≡ Refused r = sym e ∙ h in
-    record { answer = rw v; out = rw v }
+-- ---- a write
 
-module _ (c : Content) (held : List ℕ) {x : Verdict} (e : x ≡ verdict (writeTests c (length held))) (h : x ≡ Passed) where
-  passed : (verdict (contentTests c (contentFits c)) ≡ Passed) × (testAt 23 (shorter (length held) (length (image c))) ≡ Passed)
-  passed = then-passed _ _ (sym (write-verdict c (length held)) ∙ (sym e ∙ h))
+pub holds-doubles : (s : Shape) (es : List ℕ) (rs ws ss ps : List Float) → AreDoubles rs → AreDoubles ws → AreDoubles ss → AreDoubles ps → HoldsDoubles (content s es rs ws ss ps)
+holds-doubles s es rs ws ss ps a b d e = record { rays = a; weights = b; scales = d; positions = e }
 
-  pub write-shape : ShapeSound (c .shape)
-  write-shape = content-shape c (contentFits c) (passed .0)
+pub write-sound : (c : Content) (room : ℕ) → verdict (writeTests c room) ≡ Passed → WriteSound c room
+unfolding writeTests
+write-sound c room e =
+    let a = stage-passed (countTests (c .shape)) _ e in
+    let b = stage-passed (lengthTests (contentFits c)) _ (a .1) in
+    let d = stage-passed (endTests (c .shape) (c .ends)) _ (b .1) in
+    let f = stage-passed (domainTests (contentSections c)) _ (d .1) in
+    record { counts = a .0; shape = counts-sound _ (a .0); fit = lengths-fit _ (b .0); ends = d .0; domain = f .0; room = room-enough _ _ (f .1) }
 
-  pub write-lengths : Lengths (rows (c .shape)) (c .shape .points) (c .ends) (c .rays) (c .weights) (c .scales) (c .positions)
-  write-lengths = fit-lengths c (content-fits c (contentFits c) (passed .0))
-
-  pub write-room : 52 + 48 * rows (c .shape) + 24 * c .shape .points ≤ length held
-  write-room = omega (arith, length-image c, room-enough _ _ (test-at-passed 23 _ (passed .1)))
-
-  pub write-passed : (m : List ℕ) {k : ℕ} → m ≡ write held 0 (image c) → k ≡ 52 + 48 * rows (c .shape) + 24 * c .shape .points → Writes c held (Bytes k) m
+module _ (s : Shape) (es : List ℕ) (rs ws ss ps : List Float) (held : List ℕ) {x : Verdict} (e : x ≡ verdict (writeTests (content s es rs ws ss ps) (length held))) where
+  pub write-refused : {r : Refusal} → x ≡ Refused r → HoldsDoubles (content s es rs ws ss ps) → Writes (content s es rs ws ss ps) held (NotWritten r) held
   unfolding writeVerdict writtenIf after
-  write-passed m f g =
-      let v : verdict (writeTests c (length held)) ≡ Passed = sym e ∙ h in
-      record { answer = rw v (ap Bytes (g ∙ sym (length-image c))); out = rw v (image-front c held m f (omega (arith, length-image c, write-room))) }
+  write-refused {r} h d =
+      let v : verdict (writeTests (content s es rs ws ss ps) (length held)) ≡ Refused r = sym e ∙ h in
+      record { answer = rw v; out = rw v; doubles = d }
+
+  module _ (h : x ≡ Passed) where
+    written : WriteSound (content s es rs ws ss ps) (length held)
+    written = write-sound _ _ (sym e ∙ h)
+
+    pub write-shape : ShapeSound s
+    write-shape = written .shape
+
+    pub write-lengths : ContentLengths s es rs ws ss ps
+    write-lengths = content-fits _ _ _ _ _ _ (written .fit)
+
+    pub write-room : 52 + 48 * rows s + 24 * s .points ≤ length held
+    write-room = omega (arith, length-image (content s es rs ws ss ps), written .room)
+
+    pub write-passed : (m : List ℕ) {k : ℕ} → m ≡ write held 0 (image (content s es rs ws ss ps)) → k ≡ 52 + 48 * rows s + 24 * s .points → HoldsDoubles (content s es rs ws ss ps) →
+        Writes (content s es rs ws ss ps) held (Bytes k) m
+    unfolding writeVerdict writtenIf after
+    write-passed m f g d =
+        let c = content s es rs ws ss ps in
+        let v : verdict (writeTests c (length held)) ≡ Passed = sym e ∙ h in
+        record { answer = rw v (ap Bytes (g ∙ sym (length-image c))); out = rw v (image-front c held m f (written .room)); doubles = d }

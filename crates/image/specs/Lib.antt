@@ -1,3 +1,5 @@
 pub mod Reading
 pub mod Tests
 pub mod Calls
+pub mod RoundTrips
+pub mod inner

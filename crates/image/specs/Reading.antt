@@ -1,11 +1,7 @@
 -- What stands in an image (document 01, 'Network image').
-use Prim.Native.Nat.{ℕ, zero, suc, _+_, _*_, _/_, _%_, _≤_, _<_}
+use Prim.Native.Nat.{ℕ, zero, suc, _+_, _*_, _/_, _%_}
 use mathlib.Core.List.{List}
-use mathlib.Core.Path.{_≡_}
-use mathlib.Core.Bool.{true}
-use lib.ListN.{length}
 use lib.Ieee.{Float}
-use lib.Ieee.Scale.{finite}
 use Rattle.field.specs.Count.{field}
 use Rattle.network.specs.Network.{shape, rows}
 use Rattle.network.specs.declared.Shape.{Shape}
@@ -59,7 +55,8 @@ pointsFrom p m l = doublesFrom p 24 3 (3 * m) l
 -- the network of shape s whose rows start at p and whose points follow them
 unfoldable pub contentFrom : ℕ → Shape → List ℕ → Content
 contentFrom p s l =
-    content s (endsFrom p (rows s) l) (raysFrom p (rows s) l) (weightsFrom p (rows s) l) (scalesFrom p (rows s) l) (pointsFrom (p + 48 * rows s) (s .points) l)
+    let r = rows s in
+    content s (endsFrom p r l) (raysFrom p r l) (weightsFrom p r l) (scalesFrom p r l) (pointsFrom (p + 48 * r) (s .points) l)
 
 -- what an image of k sections holds: its counts are the first section, the rows follow them
 abbrev pub contentIn : ℕ → List ℕ → Content
@@ -68,24 +65,3 @@ contentIn k l = contentFrom (headSize k + 16) (shapeAt (headSize k) l) l
 -- version 1
 abbrev pub contentOf : List ℕ → Content
 contentOf l = contentIn 4 l
-
--- the n doubles that lie so are there and finite
-abbrev pub Readable : ℕ → ℕ → ℕ → ℕ → List ℕ → Type 0
-Readable start stride group n l =
-    (k : ℕ) → k < n → (spread start stride 8 group k + 8 ≤ length l) × (finite (doubleAt l (spread start stride 8 group k)) ≡ true)
-
--- what the reader's tests have shown where they refuse nothing. The functions that store require it.
-pub record Sound (p r m : ℕ) (l : List ℕ) : Type 0 where
-  pub there : p + 48 * r + 24 * m ≤ length l
-  pub rays : Readable (p + 8) 48 3 (3 * r) l
-  pub weights : Readable (p + 32) 48 1 r l
-  pub scales : Readable (p + 40) 48 1 r l
-  pub positions : Readable (p + 48 * r) 24 3 (3 * m) l
-
--- the five lists that the reader fills
-pub record Filled (p r m : ℕ) (l : List ℕ) (es : List ℕ) (rs ws ss ps : List Float) : Type 0 where
-  pub ends : es ≡ endsFrom p r l
-  pub rays : rs ≡ raysFrom p r l
-  pub weights : ws ≡ weightsFrom p r l
-  pub scales : ss ≡ scalesFrom p r l
-  pub positions : ps ≡ pointsFrom (p + 48 * r) m l

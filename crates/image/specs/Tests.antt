@@ -1,15 +1,14 @@
--- What reader and writer refuse (document 01, 'Refused calls' 20 to 23, with 1 to 5 and 7), and what they answer.
-use Prim.Native.Nat.{ℕ, _-_, _*_}
+-- What reader and writer refuse (document 01, 'Refused calls' 20 to 23, with 1 to 5 and 7).
+use Prim.Native.Nat.{ℕ, _-_}
 use mathlib.Core.List.{List, [], _∷_, _++_}
-use mathlib.Core.Bool.{Bool, cond, not, _&&_, _||_}
+use mathlib.Core.Bool.{Bool, cond, not, _||_}
 use lib.ListN.{length, getD}
 use lib.Dec.{eqb, ltb}
 use Rattle.field.specs.declared.Place.{Place}
 use Rattle.field.specs.declared.Place.the-variants.{At, Nowhere}
 use Rattle.field.specs.Count.{lowest, orElse}
 use Rattle.network.specs.declared.Verdict.{Verdict}
-use Rattle.network.specs.Network.{rows}
-use Rattle.network.specs.Refusals.{test, testAt, Section, section, running, countTests, endsFit, raysFit, endTests, badRow, badVector}
+use Rattle.network.specs.Refusals.{test, testAt, Section, countTests, contentFits as fits, lengthTests, endTests, rowSections, domainTests}
 use Rattle.layout.specs.Bytes.{u16At}
 use Rattle.layout.specs.Image.{Content, headSize, sizes, image}
 use Rattle.image.specs.Reading.{offsetAt, lengthAt, startOf, shapeAt, contentOf}
@@ -40,39 +39,43 @@ imageTests l =
     ∷ testAt 22 (lowest (badLength (sizes (shapeAt 36 l)) l) 4)
     ∷ []
 
--- ---- 1 to 5 and 7
+-- ---- 1 to 5 and 7, of a content
 
--- 3: every list has the length that the counts say
-unfoldable pub contentFits : Content → Bool
-contentFits c =
-    let s = c .shape in
-    endsFit (rows s) (c .ends) (c .weights) && (raysFit (rows s) (c .rays) (c .scales) && eqb (length (c .positions)) (3 * s .points))
+-- every list has the length that the counts say
+abbrev pub contentFits : Content → Bool
+contentFits c = fits (c .shape) (c .ends) (c .rays) (c .weights) (c .scales) (c .positions)
 
 -- 7 counts rows and points through
 abbrev pub contentSections : Content → List Section
-contentSections c = section (rows (c .shape)) (badRow (c .weights) (c .scales) (c .rays)) ∷ section (c .shape .points) (badVector (c .positions)) ∷ []
+contentSections c = rowSections (c .shape) (c .rays) (c .weights) (c .scales) (c .positions)
 
 -- 4, 5 and 7
 unfoldable pub rowTests : Content → List Verdict
-rowTests c = endTests (c .shape) (c .ends) ++ (testAt 7 (running (contentSections c)) ∷ [])
+rowTests c = endTests (c .shape) (c .ends) ++ domainTests (contentSections c)
 
--- 1 to 5 and 7 of a content, where `fit` says that 3 passes
-unfoldable pub contentTests : Content → Bool → List Verdict
-contentTests c fit = countTests (c .shape) ++ ((test 3 (not fit) ∷ []) ++ rowTests c)
+-- ---- 23: of so many bytes, fewer than are needed; the place is how many are needed
 
--- ---- the calls
+unfoldable pub shorter : ℕ → ℕ → Place
+shorter room needed = cond (ltb room needed) (At needed) Nowhere
+
+unfoldable pub roomTests : ℕ → ℕ → List Verdict
+roomTests room needed = testAt 23 (shorter room needed) ∷ []
+
+-- ---- the calls: each is its stages, one after another
 
 -- the counts: 20 to 22, then 1 and 2
 unfoldable pub countsTests : List ℕ → List Verdict
 countsTests l = imageTests l ++ countTests (shapeAt 36 l)
 
--- the reader: 20 to 22, then 1 to 5 and 7; 3 tests the lists that are lent to it
+-- the reader: 20 to 22, then 1 to 5 and 7. `fit` says that the lists which are lent to it have the lengths that the counts say.
 unfoldable pub readTests : List ℕ → Bool → List Verdict
-readTests l fit = imageTests l ++ contentTests (contentOf l) fit
+readTests l fit = imageTests l ++ (countTests (shapeAt 36 l) ++ (lengthTests fit ++ rowTests (contentOf l)))
 
--- the writer: 1 to 5 and 7, then 23 with the bytes needed
-unfoldable pub shorter : ℕ → ℕ → Place
-shorter room needed = cond (ltb room needed) (At needed) Nowhere
-
+-- the writer, with so many bytes to write to: 1 to 5 and 7, then 23
 unfoldable pub writeTests : Content → ℕ → List Verdict
-writeTests c room = contentTests c (contentFits c) ++ (testAt 23 (shorter room (length (image c))) ∷ [])
+writeTests c room =
+    countTests (c .shape)
+    ++ (lengthTests (contentFits c)
+    ++ (endTests (c .shape) (c .ends)
+    ++ (domainTests (contentSections c)
+    ++ roomTests room (length (image c)))))

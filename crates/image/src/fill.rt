@@ -2,14 +2,16 @@
 use crate::rows::double_at;
 use double::Decoded;
 use layout::bytes::u32_at;
+use network::Shape;
 ghost use mathlib.Core.Path.{_≡_};
 ghost use mathlib.Core.Bool.{true};
 ghost use Prim.Native.Nat.{_+_, _*_, _≤_, _<_};
 ghost use lib.ListN.{length};
 ghost use lib.Ieee.Scale.{finite};
 ghost use Rattle.layout.specs.Bytes.{doubleAt};
-ghost use Rattle.layout.specs.Image.{Lengths};
-ghost use Rattle.image.specs.Reading.{wholesFrom, doublesFrom, endsFrom, raysFrom, weightsFrom, scalesFrom, pointsFrom, Readable, Sound, Filled};
+ghost use Rattle.network.specs.inner.Sound.{ContentLengths};
+ghost use Rattle.image.specs.Reading.{wholesFrom, doublesFrom};
+ghost use Rattle.image.specs.inner.Sound.{Readable, ContentReadable, Filled};
 
 // The finite double at p.
 fn value_at(bytes: &[u8], p: usize) -> f64
@@ -49,25 +51,39 @@ fn fill_doubles(bytes: &[u8], start: usize, stride: usize, group: usize, out: &m
     }
 }
 
-// Everything of `count` rows from `at` on and of the m points behind them.
+// Rays, weights and scales of the rows from `at` on.
+fn fill_rows(bytes: &[u8], at: usize, rays: &mut [f64], weights: &mut [f64], scales: &mut [f64])
+    requires { ⌜ at ≤ length (now bytes) ⌝ }
+    requires { ⌜ Readable (at + 8) 48 3 (length (now rays)) (now bytes) ⌝ }
+    requires { ⌜ Readable (at + 32) 48 1 (length (now weights)) (now bytes) ⌝ }
+    requires { ⌜ Readable (at + 40) 48 1 (length (now scales)) (now bytes) ⌝ }
+    ensures { λ r. ⌜ now (rays .exit) ≡ doublesFrom (at + 8) 48 3 (length (now (rays .entry))) (now (bytes .entry)) ⌝ }
+    ensures { λ r. ⌜ now (weights .exit) ≡ doublesFrom (at + 32) 48 1 (length (now (weights .entry))) (now (bytes .entry)) ⌝ }
+    ensures { λ r. ⌜ now (scales .exit) ≡ doublesFrom (at + 40) 48 1 (length (now (scales .entry))) (now (bytes .entry)) ⌝ }
+{
+    fill_doubles(bytes, at + 8, 48, 3, rays);
+    fill_doubles(bytes, at + 32, 48, 1, weights);
+    fill_doubles(bytes, at + 40, 48, 1, scales);
+}
+
+// Everything of the rows from `at` on, in a network of shape s, and of the points behind them.
 pub(crate) fn fill(
     bytes: &[u8],
     at: usize,
-    count: usize,
-    m: usize,
+    s: Shape,
     ends: &mut [usize],
     rays: &mut [f64],
     weights: &mut [f64],
     scales: &mut [f64],
     points: &mut [f64],
 )
-    requires { ⌜ Sound at count m (now bytes) ⌝ }
-    requires { ⌜ Lengths count m (now ends) (now rays) (now weights) (now scales) (now points) ⌝ }
-    ensures { λ r. ⌜ Filled at count m (now (bytes .entry)) (now (ends .exit)) (now (rays .exit)) (now (weights .exit)) (now (scales .exit)) (now (points .exit)) ⌝ }
+    requires { ⌜ ContentReadable at s (now bytes) ⌝ }
+    requires { ⌜ ContentLengths s (now ends) (now rays) (now weights) (now scales) (now points) ⌝ }
+    ensures { λ r. ⌜ Filled at s (now (bytes .entry))
+        (now (ends .exit)) (now (rays .exit)) (now (weights .exit)) (now (scales .exit)) (now (points .exit)) ⌝ }
 {
+    let behind = at + 48 * (s.bearings + s.directions);
     fill_ends(bytes, at, ends);
-    fill_doubles(bytes, at + 8, 48, 3, rays);
-    fill_doubles(bytes, at + 32, 48, 1, weights);
-    fill_doubles(bytes, at + 40, 48, 1, scales);
-    fill_doubles(bytes, at + 48 * count, 24, 3, points);
+    fill_rows(bytes, at, rays, weights, scales);
+    fill_doubles(bytes, behind, 24, 3, points);
 }

@@ -94,6 +94,15 @@ fn find_pair(bytes: &[u8], k: usize) -> Place
     Place::At(k - 1)
 }
 
+// Section i's length differs from what it must be.
+fn bad_length_at(bytes: &[u8], sizes: &[usize], i: usize) -> bool
+    requires { ⌜ headSize (length (now sizes)) ≤ length (now bytes) ⌝ }
+    requires { ⌜ i < length (now sizes) ⌝ }
+    ensures { λ r. ⌜ r ≡ badLength (now (sizes .entry)) (now (bytes .entry)) i ⌝ }
+{
+    length_at(bytes, i) != sizes[i]
+}
+
 // The first section whose length differs from what it must be.
 fn find_length(bytes: &[u8], sizes: &[usize]) -> Place
     requires { ⌜ headSize (length (now sizes)) ≤ length (now bytes) ⌝ }
@@ -101,12 +110,24 @@ fn find_length(bytes: &[u8], sizes: &[usize]) -> Place
 {
     let mut i = 0usize;
     while i < sizes.len() {
-        if length_at(bytes, i) != sizes[i] {
+        if bad_length_at(bytes, sizes, i) {
             return Place::At(i);
         }
         i += 1;
     }
     Place::Nowhere
+}
+
+// The first section whose length differs from what the counts say.
+fn find_counted_length(bytes: &[u8]) -> Place
+    requires { ⌜ 52 ≤ length (now bytes) ⌝ }
+    ensures { λ r. ⌜ r ≡ lowest (badLength (sizesOf (shapeAt 36 (now (bytes .entry)))) (now (bytes .entry))) 4 ⌝ }
+{
+    let m = u32_at(bytes, 40);
+    let b = u32_at(bytes, 44);
+    let e = u32_at(bytes, 48);
+    let sizes = [16, 48 * b, 48 * e, 24 * m];
+    find_length(bytes, &sizes)
 }
 
 // 22.
@@ -118,11 +139,7 @@ fn find_section(bytes: &[u8]) -> Place
     if length_at(bytes, 0) != 16 {
         return Place::At(0);
     }
-    let m = u32_at(bytes, 40);
-    let b = u32_at(bytes, 44);
-    let e = u32_at(bytes, 48);
-    let sizes = [16, 48 * b, 48 * e, 24 * m];
-    find_length(bytes, &sizes)
+    find_counted_length(bytes)
 }
 
 // 20 to 22.

@@ -4,45 +4,48 @@ use double::from_bits;
 use field::Place;
 use layout::bytes::u32_at;
 use layout::bytes::u64_at;
+use network::Shape;
 use network::Verdict;
 use network::answers::both;
 use network::answers::choose;
 use network::answers::either;
 use network::answers::refused_at;
 ghost use mathlib.Core.Path.{_≡_};
-ghost use mathlib.Core.Bool.{cond, _&&_, _||_};
 ghost use mathlib.Core.List.{[], _∷_};
 ghost use Prim.Native.Nat.{_+_, _*_, _≤_, _<_};
-ghost use lib.Dec.{eqb, ltb, leb};
 ghost use lib.ListN.{length};
 ghost use lib.Ieee.Scale.{finite};
 ghost use Rattle.double.specs.Double.{decoded};
 ghost use Rattle.field.specs.Count.{lowest};
-ghost use Rattle.network.specs.Network.{shape};
-ghost use Rattle.network.specs.Refusals.{verdict, section, running, strays, loops, endTests, badWeight, badScale, badVector, badRow};
-ghost use Rattle.layout.specs.Bytes.{numberAt, u32At, doubleAt};
-ghost use Rattle.image.specs.Reading.{endsFrom, raysFrom, weightsFrom, scalesFrom, pointsFrom, contentFrom};
-ghost use Rattle.image.specs.Tests.{rowTests};
+ghost use Rattle.network.specs.Network.{rows};
+ghost use Rattle.network.specs.Refusals.{verdict, running, strays, loops, endTests, badWeight, badScale, badVector, domainTests};
+ghost use Rattle.layout.specs.Bytes.{numberAt, doubleAt};
+ghost use Rattle.image.specs.Reading.{endsFrom, pointsFrom, contentFrom};
+ghost use Rattle.image.specs.Tests.{contentSections, rowTests};
+ghost use Rattle.image.specs.inner.Sound.{badRowFrom};
 
-// Row r, which stands at p, has a number that is out of range.
-fn stray_at(bytes: &[u8], p: usize, n: usize, m: usize, b: usize, r: usize) -> bool
-    requires { ⌜ p + 8 ≤ length (now bytes) ⌝ }
-    ensures { λ x. ⌜ x ≡ leb n (u32At (now (bytes .entry)) p) || leb (cond (ltb r b) m n) (u32At (now (bytes .entry)) (p + 4)) ⌝ }
+// Row r of those from `at` on, in a network of shape s, has a number that is out of range.
+fn strays_at(bytes: &[u8], at: usize, s: Shape, r: usize) -> bool
+    requires { ⌜ at + 48 * rows s ≤ length (now bytes) ⌝ }
+    requires { ⌜ r < rows s ⌝ }
+    ensures { λ x. ⌜ x ≡ strays (s .cameras) (s .points) (s .bearings) (endsFrom at (rows s) (now (bytes .entry))) r ⌝ }
 {
+    let p = at + 48 * r;
     either(
-        n <= u32_at(bytes, p),
-        choose(r < b, m, n) <= u32_at(bytes, p + 4),
+        s.cameras <= u32_at(bytes, p),
+        choose(r < s.bearings, s.points, s.cameras) <= u32_at(bytes, p + 4),
     )
 }
 
-// The lowest of `count` rows from `at` on with a number that is out of range.
-fn find_stray(bytes: &[u8], at: usize, count: usize, n: usize, m: usize, b: usize) -> Place
-    requires { ⌜ at + 48 * count ≤ length (now bytes) ⌝ }
-    ensures { λ x. ⌜ x ≡ lowest (strays n m b (endsFrom at count (now (bytes .entry)))) count ⌝ }
+// The lowest row from `at` on with a number that is out of range.
+fn find_stray(bytes: &[u8], at: usize, s: Shape) -> Place
+    requires { ⌜ at + 48 * rows s ≤ length (now bytes) ⌝ }
+    ensures { λ x. ⌜ x ≡ lowest (strays (s .cameras) (s .points) (s .bearings) (endsFrom at (rows s) (now (bytes .entry)))) (rows s) ⌝ }
 {
+    let count = s.bearings + s.directions;
     let mut r = 0usize;
     while r < count {
-        if stray_at(bytes, at + 48 * r, n, m, b, r) {
+        if strays_at(bytes, at, s, r) {
             return Place::At(r);
         }
         r += 1;
@@ -50,22 +53,25 @@ fn find_stray(bytes: &[u8], at: usize, count: usize, n: usize, m: usize, b: usiz
     Place::Nowhere
 }
 
-// Row r, which stands at p, is a direction with source = target.
-fn loop_at(bytes: &[u8], p: usize, b: usize, r: usize) -> bool
-    requires { ⌜ p + 8 ≤ length (now bytes) ⌝ }
-    ensures { λ x. ⌜ x ≡ leb b r && eqb (u32At (now (bytes .entry)) p) (u32At (now (bytes .entry)) (p + 4)) ⌝ }
+// Row r of those from `at` on, in a network of shape s, is a direction with source = target.
+fn loops_at(bytes: &[u8], at: usize, s: Shape, r: usize) -> bool
+    requires { ⌜ at + 48 * rows s ≤ length (now bytes) ⌝ }
+    requires { ⌜ r < rows s ⌝ }
+    ensures { λ x. ⌜ x ≡ loops (s .bearings) (endsFrom at (rows s) (now (bytes .entry))) r ⌝ }
 {
-    both(b <= r, u32_at(bytes, p) == u32_at(bytes, p + 4))
+    let p = at + 48 * r;
+    both(s.bearings <= r, u32_at(bytes, p) == u32_at(bytes, p + 4))
 }
 
-// The lowest of `count` rows from `at` on that is a direction with source = target.
-fn find_loop(bytes: &[u8], at: usize, count: usize, b: usize) -> Place
-    requires { ⌜ at + 48 * count ≤ length (now bytes) ⌝ }
-    ensures { λ x. ⌜ x ≡ lowest (loops b (endsFrom at count (now (bytes .entry)))) count ⌝ }
+// The lowest row from `at` on that is a direction with source = target.
+fn find_loop(bytes: &[u8], at: usize, s: Shape) -> Place
+    requires { ⌜ at + 48 * rows s ≤ length (now bytes) ⌝ }
+    ensures { λ x. ⌜ x ≡ lowest (loops (s .bearings) (endsFrom at (rows s) (now (bytes .entry)))) (rows s) ⌝ }
 {
+    let count = s.bearings + s.directions;
     let mut r = 0usize;
     while r < count {
-        if loop_at(bytes, at + 48 * r, b, r) {
+        if loops_at(bytes, at, s, r) {
             return Place::At(r);
         }
         r += 1;
@@ -74,16 +80,15 @@ fn find_loop(bytes: &[u8], at: usize, count: usize, b: usize) -> Place
 }
 
 // 4 and 5.
-fn check_ends(bytes: &[u8], at: usize, n: usize, m: usize, b: usize, e: usize) -> Verdict
-    requires { ⌜ at + 48 * (b + e) ≤ length (now bytes) ⌝ }
-    ensures { λ x. ⌜ x ≡ verdict (endTests (shape n m b e) (endsFrom at (b + e) (now (bytes .entry)))) ⌝ }
+fn check_ends(bytes: &[u8], at: usize, s: Shape) -> Verdict
+    requires { ⌜ at + 48 * rows s ≤ length (now bytes) ⌝ }
+    ensures { λ x. ⌜ x ≡ verdict (endTests s (endsFrom at (rows s) (now (bytes .entry)))) ⌝ }
 {
-    let count = b + e;
-    let stray = refused_at(4, find_stray(bytes, at, count, n, m, b));
+    let stray = refused_at(4, find_stray(bytes, at, s));
     if let Verdict::Refused(r) = stray {
         return Verdict::Refused(r);
     }
-    refused_at(5, find_loop(bytes, at, count, b))
+    refused_at(5, find_loop(bytes, at, s))
 }
 
 pub(crate) fn double_at(bytes: &[u8], p: usize) -> Decoded
@@ -141,7 +146,7 @@ fn bad_vector_at(bytes: &[u8], p: usize) -> bool
 // The weight, scale or ray of the row that stands at p is outside the domain.
 fn bad_row_at(bytes: &[u8], p: usize) -> bool
     requires { ⌜ p + 48 ≤ length (now bytes) ⌝ }
-    ensures { λ x. ⌜ x ≡ badRow (weightsFrom p 1 (now (bytes .entry))) (scalesFrom p 1 (now (bytes .entry))) (raysFrom p 1 (now (bytes .entry))) 0 ⌝ }
+    ensures { λ x. ⌜ x ≡ badRowFrom p 1 (now (bytes .entry)) 0 ⌝ }
 {
     let scale = bad_scale_at(bytes, p + 40);
     let ray = bad_vector_at(bytes, p + 8);
@@ -151,7 +156,7 @@ fn bad_row_at(bytes: &[u8], p: usize) -> bool
 // The lowest of `count` rows from `at` on that is outside the domain.
 fn find_bad_row(bytes: &[u8], at: usize, count: usize) -> Place
     requires { ⌜ at + 48 * count ≤ length (now bytes) ⌝ }
-    ensures { λ x. ⌜ x ≡ lowest (badRow (weightsFrom at count (now (bytes .entry))) (scalesFrom at count (now (bytes .entry))) (raysFrom at count (now (bytes .entry)))) count ⌝ }
+    ensures { λ x. ⌜ x ≡ lowest (badRowFrom at count (now (bytes .entry))) count ⌝ }
 {
     let mut r = 0usize;
     while r < count {
@@ -178,30 +183,39 @@ fn find_bad_point(bytes: &[u8], at: usize, m: usize) -> Place
     Place::Nowhere
 }
 
-// The lowest place outside the domain, counted through `count` rows from `at` on and m points behind them.
-fn find_outside(bytes: &[u8], at: usize, count: usize, m: usize) -> Place
-    requires { ⌜ at + 48 * count + 24 * m ≤ length (now bytes) ⌝ }
-    ensures { λ x. ⌜ x ≡ running (section count (badRow (weightsFrom at count (now (bytes .entry))) (scalesFrom at count (now (bytes .entry))) (raysFrom at count (now (bytes .entry)))) ∷ section m (badVector (pointsFrom (at + 48 * count) m (now (bytes .entry)))) ∷ []) ⌝ }
+// The lowest place outside the domain, counted through the rows from `at` on and the points behind them.
+fn find_outside(bytes: &[u8], at: usize, s: Shape) -> Place
+    requires { ⌜ at + 48 * rows s + 24 * s .points ≤ length (now bytes) ⌝ }
+    ensures { λ x. ⌜ x ≡ running (contentSections (contentFrom at s (now (bytes .entry)))) ⌝ }
 {
+    let count = s.bearings + s.directions;
     let row = find_bad_row(bytes, at, count);
     if let Place::At(r) = row {
         return Place::At(r);
     }
-    let point = find_bad_point(bytes, at + 48 * count, m);
+    let point = find_bad_point(bytes, at + 48 * count, s.points);
     if let Place::At(p) = point {
         return Place::At(count + p);
     }
     Place::Nowhere
 }
 
-// 4, 5 and 7 of the rows from `at` on and the points behind them.
-pub(crate) fn check_rows(bytes: &[u8], at: usize, n: usize, m: usize, b: usize, e: usize) -> Verdict
-    requires { ⌜ at + 48 * (b + e) + 24 * m ≤ length (now bytes) ⌝ }
-    ensures { λ x. ⌜ x ≡ verdict (rowTests (contentFrom at (shape n m b e) (now (bytes .entry)))) ⌝ }
+// 7.
+fn check_domain(bytes: &[u8], at: usize, s: Shape) -> Verdict
+    requires { ⌜ at + 48 * rows s + 24 * s .points ≤ length (now bytes) ⌝ }
+    ensures { λ x. ⌜ x ≡ verdict (domainTests (contentSections (contentFrom at s (now (bytes .entry))))) ⌝ }
 {
-    let ends = check_ends(bytes, at, n, m, b, e);
+    refused_at(7, find_outside(bytes, at, s))
+}
+
+// 4, 5 and 7 of the rows from `at` on and the points behind them.
+pub(crate) fn check_rows(bytes: &[u8], at: usize, s: Shape) -> Verdict
+    requires { ⌜ at + 48 * rows s + 24 * s .points ≤ length (now bytes) ⌝ }
+    ensures { λ x. ⌜ x ≡ verdict (rowTests (contentFrom at s (now (bytes .entry)))) ⌝ }
+{
+    let ends = check_ends(bytes, at, s);
     if let Verdict::Refused(r) = ends {
         return Verdict::Refused(r);
     }
-    refused_at(7, find_outside(bytes, at, b + e, m))
+    check_domain(bytes, at, s)
 }

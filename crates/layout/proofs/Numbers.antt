@@ -11,7 +11,7 @@ use lib.Dec.{T}
 use lib.Ieee.{Float, binary64, ofBits, toBits, fits, isNan}
 use lib.Ieee.Bits.{ofBits-toBits, toBits-ofBits, toBits-lt}
 use Rattle.field.specs.Buffer.{part}
-use Rattle.layout.specs.Bytes.{AreBytes, bytesOf, numberAt, doubleBytes, doubleAt}
+use Rattle.layout.specs.Bytes.{AreBytes, bytesOf, numberAt, u16At, u32At, doubleBytes, doubleAt}
 
 pub length-bytes : (k x : ℕ) → length (bytesOf k x) ≡ k
 unfolding bytesOf
@@ -64,12 +64,22 @@ number-add (suc a) b l p =
     rw suc-add (omega arith)
 
 -- the same, as code reads it
-pub halves : (k : ℕ) (l : List ℕ) (p : ℕ) {x y : ℕ} → x ≡ numberAt k l p → y ≡ numberAt k l (p + k) → x + 256 ^ k * y ≡ numberAt (k + k) l p
+halves : (k : ℕ) (l : List ℕ) (p : ℕ) {x y : ℕ} → x ≡ numberAt k l p → y ≡ numberAt k l (p + k) → x + 256 ^ k * y ≡ numberAt (k + k) l p
 halves k l p e f = rw (e, f) (sym (number-add k k l p))
 
-pub one-byte : (l : List ℕ) (p : ℕ) → getD l p 0 ≡ numberAt 1 l p
+one-byte : (l : List ℕ) (p : ℕ) → getD l p 0 ≡ numberAt 1 l p
 unfolding numberAt
 one-byte l p = omega arith
+
+module _ (l : List ℕ) (p x y : ℕ) where
+  pub u16-is : x ≡ getD l p 0 → y ≡ getD l (p + 1) 0 → x + 256 * y ≡ u16At l p
+  u16-is e f = halves 1 l p (e ∙ one-byte l p) (f ∙ one-byte l (p + 1))
+
+  pub u32-is : x ≡ u16At l p → y ≡ u16At l (p + 2) → x + 0x1_0000 * y ≡ u32At l p
+  u32-is e f = halves 2 l p e f
+
+  pub u64-is : x ≡ u32At l p → y ≡ u32At l (p + 4) → x + 0x1_0000_0000 * y ≡ numberAt 8 l p
+  u64-is e f = halves 4 l p e f
 
 -- ---- one byte more
 

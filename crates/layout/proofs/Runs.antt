@@ -12,7 +12,7 @@ use Rattle.field.specs.Buffer.{part}
 use Rattle.network.specs.Network.{rows}
 use Rattle.network.specs.declared.Shape.{Shape}
 use Rattle.layout.specs.Bytes.{bytesOf, doubleBytes, run, wholes, doubles, total}
-use Rattle.layout.specs.Image.{Content, pairs, joined, countBytes, rowBytes, rowOf, sections, sizes, assembled, image}
+use Rattle.layout.specs.Image.{Content, headSize, pairs, head, joined, countBytes, rowBytes, rowOf, sections, sizes, assembled, image}
 use Rattle.layout.proofs.Numbers.{length-bytes}
 
 -- ---- parts
@@ -29,6 +29,9 @@ part-right xs ys k p n e = rw (← e) (ap (take n) (drop-append-add xs ys p))
 
 pub part-whole : (xs : List ℕ) (n : ℕ) → length xs ≡ n → part xs 0 n ≡ xs
 part-whole xs n e = take-all n xs (omega arith)
+
+pub part-first : (xs ys : List ℕ) (n : ℕ) → length xs ≡ n → part (xs ++ ys) 0 n ≡ xs
+part-first xs ys n e = part-left xs ys 0 n (omega arith) ∙ part-whole xs n e
 
 -- ---- runs
 
@@ -62,6 +65,9 @@ part-run (suc n) w g j o k h q f =
     let s : w * j + w ≤ w * n = rw (← mul-suc) (mul-le-mul-left w l) in
     part-left (run n g) (g n) (w * j + o) k (omega (arith, length-run n w g h)) ∙ part-run n w g j o k h l f)
     (eq-or-lt-of-le (le-of-suc-le-suc q))
+
+pub part-piece : (n w : ℕ) (g : ℕ → List ℕ) (j : ℕ) → ((i : ℕ) → length (g i) ≡ w) → j < n → part (run n g) (w * j) w ≡ g j
+part-piece n w g j h q = ap (λ t. part (run n g) t w) (sym (add-zero (w * j))) ∙ part-run n w g j 0 w h q (omega arith) ∙ part-whole (g j) w (h j)
 
 -- a part in pieces of one width
 pub run-parts : (k w p : ℕ) (l : List ℕ) → run k (λ j. part l (p + w * j) w) ≡ part l p (w * k)
@@ -170,34 +176,41 @@ section-lengths c =
     (ap₂ _∷_ (length-run (s .directions) 48 (λ i. rowOf c (s .bearings + i)) (λ i. row (s .bearings + i)))
     (ap₂ _∷_ (length-doubles (c .positions) 0 (3 * s .points) ∙ p) refl)))
 
--- an image without its sections: version, section count, pairs
-abbrev pub front : Shape → List ℕ
-front s = bytesOf 2 1 ++ (bytesOf 2 4 ++ pairs 36 (sizes s))
-
 -- its sections: counts, all rows, points
 abbrev pub rest : Content → List ℕ
 rest c = countBytes (c .shape) ++ (run (rows (c .shape)) (rowOf c) ++ doubles (c .positions) 0 (3 * c .shape .points))
 
-pub length-front : (s : Shape) → length (front s) ≡ 36
-length-front s =
-    length-append (bytesOf 2 1) _
-    ∙ ap₂ _+_ (length-bytes 2 1) (length-append (bytesOf 2 4) _ ∙ ap₂ _+_ (length-bytes 2 4) (length-pairs 36 (sizes s)))
+pub length-head : (v : ℕ) (ns : List ℕ) → length (head v ns) ≡ headSize (length ns)
+length-head v ns =
+    let k = length ns in
+    length-append (bytesOf 2 v) _
+    ∙ ap₂ _+_ (length-bytes 2 v) (length-append (bytesOf 2 k) _ ∙ ap₂ _+_ (length-bytes 2 k) (length-pairs (headSize k) ns))
+    ∙ omega arith
 
-pub image-flat : (c : Content) → image c ≡ front (c .shape) ++ rest c
+pub image-parts : (c : Content) → image c ≡ head 1 (sizes (c .shape)) ++ rest c
 unfolding image assembled joined
-image-flat c =
+image-parts c =
     let s = c .shape in
     let ps = doubles (c .positions) 0 (3 * s .points) in
     let bs = run (s .bearings) (rowOf c) in
     let ds = run (s .directions) (λ i. rowOf c (s .bearings + i)) in
-    let e : bs ++ (ds ++ (ps ++ [])) ≡ run (rows s) (rowOf c) ++ ps = ap (λ t. bs ++ (ds ++ t)) (append-nil ps) ∙ sym (append-assoc bs ds ps) ∙ ap (λ t. t ++ ps) (sym (run-add (s .bearings) (s .directions) (rowOf c))) in
-    ap₂ (λ ns t. bytesOf 2 1 ++ (bytesOf 2 4 ++ (pairs 36 ns ++ (countBytes s ++ t)))) (section-lengths c) e
-    ∙ sym (append-assoc (bytesOf 2 1) _ (rest c) ∙ ap (λ t. bytesOf 2 1 ++ t) (append-assoc (bytesOf 2 4) (pairs 36 (sizes s)) (rest c)))
+    let e : bs ++ (ds ++ (ps ++ [])) ≡ run (rows s) (rowOf c) ++ ps =
+    ap (λ t. bs ++ (ds ++ t)) (append-nil ps) ∙ sym (append-assoc bs ds ps) ∙ ap (λ t. t ++ ps) (sym (run-add (s .bearings) (s .directions) (rowOf c))) in
+    ap₂ (λ ns t. head 1 ns ++ (countBytes s ++ t)) (section-lengths c) e
 
 pub length-image : (c : Content) → length (image c) ≡ 52 + 48 * rows (c .shape) + 24 * c .shape .points
 length-image c =
     let s = c .shape in
     let rs = run (rows s) (rowOf c) in
     let ps = doubles (c .positions) 0 (3 * s .points) in
-    ap length (image-flat c)
-    ∙ omega (arith, length-append (front s) (rest c), length-front s, length-append (countBytes s) (rs ++ ps), length-counts s, length-append rs ps, length-rows c, length-doubles (c .positions) 0 (3 * s .points))
+    ap length (image-parts c)
+    ∙ omega (
+      arith,
+      length-append (head 1 (sizes s)) (rest c),
+      length-head 1 (sizes s),
+      length-append (countBytes s) (rs ++ ps),
+      length-counts s,
+      length-append rs ps,
+      length-rows c,
+      length-doubles (c .positions) 0 (3 * s .points),
+    )

@@ -1,10 +1,8 @@
 -- The bytes of an image (document 01, 'Network image').
 use Prim.Native.Nat.{ℕ, _+_, _*_}
-use mathlib.Core.Path.{_≡_}
 use mathlib.Core.List.{List, [], _∷_, _++_, map}
 use lib.ListN.{length}
 use lib.Ieee.{Float}
-use Rattle.network.specs.Network.{rows}
 use Rattle.network.specs.declared.Shape.{Shape}
 use Rattle.layout.specs.Bytes.{bytesOf, run, wholes, doubles}
 
@@ -18,15 +16,14 @@ pub record Content : Type 0 where
   pub positions : List Float
 
 abbrev pub content : Shape → List ℕ → List Float → List Float → List Float → List Float → Content
-content s ends rays weights scales positions = record { shape = s; ends = ends; rays = rays; weights = weights; scales = scales; positions = positions }
-
--- the lists have the lengths that r rows and m points need
-pub record Lengths (r m : ℕ) (es : List ℕ) (rs ws ss ps : List Float) : Type 0 where
-  pub ends : length es ≡ 2 * r
-  pub rays : length rs ≡ 3 * r
-  pub weights : length ws ≡ r
-  pub scales : length ss ≡ r
-  pub positions : length ps ≡ 3 * m
+content s ends rays weights scales positions = record {
+  shape = s;
+  ends = ends;
+  rays = rays;
+  weights = weights;
+  scales = scales;
+  positions = positions;
+}
 
 -- ---- any version, any sections
 
@@ -39,6 +36,10 @@ unfoldable pub pairs : ℕ → List ℕ → List ℕ
 pairs p [] = []
 pairs p (n ∷ ns) = (bytesOf 4 p ++ bytesOf 4 n) ++ pairs (p + n) ns
 
+-- version, section count and pairs of sections of these lengths
+abbrev pub head : ℕ → List ℕ → List ℕ
+head version ns = bytesOf 2 version ++ (bytesOf 2 (length ns) ++ pairs (headSize (length ns)) ns)
+
 -- the sections, one after another
 unfoldable pub joined : List (List ℕ) → List ℕ
 joined [] = []
@@ -46,17 +47,19 @@ joined (l ∷ ls) = l ++ joined ls
 
 -- version, section count, pairs, sections
 unfoldable pub assembled : ℕ → List (List ℕ) → List ℕ
-assembled version ls = bytesOf 2 version ++ (bytesOf 2 (length ls) ++ (pairs (headSize (length ls)) (map length ls) ++ joined ls))
+assembled version ls = head version (map length ls) ++ joined ls
 
 -- ---- version 1
 
 -- counts: n, m, B, E
 unfoldable pub countBytes : Shape → List ℕ
-countBytes s = bytesOf 4 (s .cameras) ++ (bytesOf 4 (s .points) ++ (bytesOf 4 (s .bearings) ++ bytesOf 4 (s .directions)))
+countBytes s =
+    bytesOf 4 (s .cameras) ++ (bytesOf 4 (s .points) ++ (bytesOf 4 (s .bearings) ++ bytesOf 4 (s .directions)))
 
 -- row r: camera and point, or source and target; then ray, weight, scale
 unfoldable pub rowBytes : List ℕ → List Float → List Float → List Float → ℕ → List ℕ
-rowBytes ends rays weights scales r = wholes ends (2 * r) 2 ++ (doubles rays (3 * r) 3 ++ (doubles weights r 1 ++ doubles scales r 1))
+rowBytes ends rays weights scales r =
+    wholes ends (2 * r) 2 ++ (doubles rays (3 * r) 3 ++ (doubles weights r 1 ++ doubles scales r 1))
 
 abbrev pub rowOf : Content → ℕ → List ℕ
 rowOf c r = rowBytes (c .ends) (c .rays) (c .weights) (c .scales) r

@@ -1,13 +1,15 @@
 // An image, stored from the front of a buffer on.
 use double::to_bits;
+use network::Shape;
 ghost use mathlib.Core.List.{_++_};
 ghost use mathlib.Core.Path.{_≡_};
 ghost use Prim.Native.Nat.{_+_, _*_, _≤_};
 ghost use lib.ListN.{length};
 ghost use Rattle.field.specs.Buffer.{write};
-ghost use Rattle.network.specs.Network.{shape};
+ghost use Rattle.network.specs.Network.{rows};
+ghost use Rattle.network.specs.inner.Sound.{ContentLengths};
 ghost use Rattle.layout.specs.Bytes.{bytesOf, doubleBytes, run, wholes, doubles, total};
-ghost use Rattle.layout.specs.Image.{content, Lengths, headSize, pairs, rowBytes, image};
+ghost use Rattle.layout.specs.Image.{content, headSize, pairs, head, countBytes, rowBytes, sizes as sizesOf, image};
 
 // The `count` lowest bytes of a number.
 fn put_number(value: u64, count: usize, out: &mut [u8], at: usize)
@@ -56,6 +58,17 @@ fn put_doubles(list: &[f64], from: usize, count: usize, out: &mut [u8], at: usiz
     }
 }
 
+// The ends and the ray of row r.
+fn put_ends_and_ray(ends: &[usize], rays: &[f64], r: usize, out: &mut [u8], at: usize)
+    requires { ⌜ (2 * r + 2 ≤ length (now ends)) × (3 * r + 3 ≤ length (now rays)) ⌝ }
+    requires { ⌜ at + 32 ≤ length (now out) ⌝ }
+    ensures { λ x. ⌜ now (out .exit) ≡ write (now (out .entry)) at
+        (wholes (now (ends .entry)) (2 * r) 2 ++ doubles (now (rays .entry)) (3 * r) 3) ⌝ }
+{
+    put_wholes(ends, 2 * r, 2, out, at);
+    put_doubles(rays, 3 * r, 3, out, at + 8);
+}
+
 // Row r: its ends, ray, weight and scale.
 fn put_row(
     ends: &[usize],
@@ -66,12 +79,13 @@ fn put_row(
     out: &mut [u8],
     at: usize,
 )
-    requires { ⌜ (2 * r + 2 ≤ length (now ends)) × (3 * r + 3 ≤ length (now rays)) × (r + 1 ≤ length (now weights)) × (r + 1 ≤ length (now scales)) ⌝ }
+    requires { ⌜ (2 * r + 2 ≤ length (now ends)) × (3 * r + 3 ≤ length (now rays)) ⌝ }
+    requires { ⌜ (r + 1 ≤ length (now weights)) × (r + 1 ≤ length (now scales)) ⌝ }
     requires { ⌜ at + 48 ≤ length (now out) ⌝ }
-    ensures { λ x. ⌜ now (out .exit) ≡ write (now (out .entry)) at (rowBytes (now (ends .entry)) (now (rays .entry)) (now (weights .entry)) (now (scales .entry)) r) ⌝ }
+    ensures { λ x. ⌜ now (out .exit) ≡ write (now (out .entry)) at
+        (rowBytes (now (ends .entry)) (now (rays .entry)) (now (weights .entry)) (now (scales .entry)) r) ⌝ }
 {
-    put_wholes(ends, 2 * r, 2, out, at);
-    put_doubles(rays, 3 * r, 3, out, at + 8);
+    put_ends_and_ray(ends, rays, r, out, at);
     put_doubles(weights, r, 1, out, at + 32);
     put_doubles(scales, r, 1, out, at + 40);
 }
@@ -86,9 +100,11 @@ fn put_rows(
     out: &mut [u8],
     at: usize,
 )
-    requires { ⌜ (2 * count ≤ length (now ends)) × (3 * count ≤ length (now rays)) × (count ≤ length (now weights)) × (count ≤ length (now scales)) ⌝ }
+    requires { ⌜ (2 * count ≤ length (now ends)) × (3 * count ≤ length (now rays)) ⌝ }
+    requires { ⌜ (count ≤ length (now weights)) × (count ≤ length (now scales)) ⌝ }
     requires { ⌜ at + 48 * count ≤ length (now out) ⌝ }
-    ensures { λ x. ⌜ now (out .exit) ≡ write (now (out .entry)) at (run count (rowBytes (now (ends .entry)) (now (rays .entry)) (now (weights .entry)) (now (scales .entry)))) ⌝ }
+    ensures { λ x. ⌜ now (out .exit) ≡ write (now (out .entry)) at
+        (run count (rowBytes (now (ends .entry)) (now (rays .entry)) (now (weights .entry)) (now (scales .entry)))) ⌝ }
 {
     let mut r = 0usize;
     while r < count {
@@ -124,19 +140,27 @@ fn put_pairs(start: usize, sizes: &[usize], out: &mut [u8], at: usize)
 // Version, section count and pairs of sections of these sizes.
 fn put_head(version: usize, sizes: &[usize], out: &mut [u8])
     requires { ⌜ headSize (length (now sizes)) + total (now sizes) ≤ length (now out) ⌝ }
-    ensures { λ r. ⌜ now (out .exit) ≡ write (now (out .entry)) 0 (bytesOf 2 version ++ (bytesOf 2 (length (now (sizes .entry))) ++ pairs (headSize (length (now (sizes .entry)))) (now (sizes .entry)))) ⌝ }
+    ensures { λ r. ⌜ now (out .exit) ≡ write (now (out .entry)) 0 (head version (now (sizes .entry))) ⌝ }
 {
     put_number(version as u64, 2, out, 0);
     put_number(sizes.len() as u64, 2, out, 2);
     put_pairs(4 + 8 * sizes.len(), sizes, out, 4);
 }
 
+// The head of the image of a network of shape s, and its counts.
+fn put_front(s: Shape, out: &mut [u8])
+    requires { ⌜ 52 + 48 * rows s + 24 * s .points ≤ length (now out) ⌝ }
+    ensures { λ r. ⌜ now (out .exit) ≡ write (now (out .entry)) 0 (head 1 (sizesOf s) ++ countBytes s) ⌝ }
+{
+    let sizes = [16, 48 * s.bearings, 48 * s.directions, 24 * s.points];
+    put_head(1, &sizes, out);
+    let counts = [s.cameras, s.points, s.bearings, s.directions];
+    put_wholes(&counts, 0, 4, out, 36);
+}
+
 // The image of a network, at the front of `out`.
 pub fn put_image(
-    n: usize,
-    m: usize,
-    b: usize,
-    e: usize,
+    s: Shape,
     ends: &[usize],
     rays: &[f64],
     weights: &[f64],
@@ -144,15 +168,13 @@ pub fn put_image(
     points: &[f64],
     out: &mut [u8],
 )
-    requires { ⌜ Lengths (b + e) m (now ends) (now rays) (now weights) (now scales) (now points) ⌝ }
-    requires { ⌜ 52 + 48 * (b + e) + 24 * m ≤ length (now out) ⌝ }
-    ensures { λ r. ⌜ now (out .exit) ≡ write (now (out .entry)) 0 (image (content (shape n m b e) (now (ends .entry)) (now (rays .entry)) (now (weights .entry)) (now (scales .entry)) (now (points .entry)))) ⌝ }
+    requires { ⌜ ContentLengths s (now ends) (now rays) (now weights) (now scales) (now points) ⌝ }
+    requires { ⌜ 52 + 48 * rows s + 24 * s .points ≤ length (now out) ⌝ }
+    ensures { λ r. ⌜ now (out .exit) ≡ write (now (out .entry)) 0 (image (content s
+        (now (ends .entry)) (now (rays .entry)) (now (weights .entry)) (now (scales .entry)) (now (points .entry)))) ⌝ }
 {
-    let last = 52 + 48 * (b + e);
-    let sizes = [16, 48 * b, 48 * e, 24 * m];
-    put_head(1, &sizes, out);
-    let counts = [n, m, b, e];
-    put_wholes(&counts, 0, 4, out, 36);
-    put_rows(ends, rays, weights, scales, b + e, out, 52);
-    put_doubles(points, 0, 3 * m, out, last);
+    let count = s.bearings + s.directions;
+    put_front(s, out);
+    put_rows(ends, rays, weights, scales, count, out, 52);
+    put_doubles(points, 0, 3 * s.points, out, 52 + 48 * count);
 }

@@ -4,22 +4,12 @@ use borrow.Author.Needs.{needs}
 use Rattle.layout.proofs.put.put_pair.Statement.{statement}
 use Rattle.layout.proofs.put.put_pair.Tie as tie
 
-put-number-requires : tie.Need-put-number-requires
-put-number-requires c κs = search needs
-
-add-put-number : tie.Need-add-put-number
-add-put-number c = search needs
-
-put-number-requires-2 : tie.Need-put-number-requires-2
-put-number-requires-2 c κs = search needs
-
-same-length : tie.Need-same-length
-same-length c = search needs
-
-returns : tie.Need-returns
-returns c = write-next _ _ 4 _ _ (c .before .before .before .before .before .before .put-number .ensures) (length-bytes 4 _) (c .before .before .put-number2 .ensures)
-
 pub put-pair-spec : {M : Type 1} → statement M
 put-pair-spec =
     tie.close
-    (tie.spec put-number-requires add-put-number put-number-requires-2 same-length returns)
+    (tie.spec
+    (λ c κs. search needs)
+    (λ c. search needs)
+    (λ c κs. search needs)
+    (λ c. search needs)
+    (λ c. search (write-next, length-bytes)))
