@@ -11,13 +11,12 @@ use lib.Dec.{eqb}
 use lib.Ieee.{Float, binary64, add, mul, ofBits, isNan}
 use lib.Ieee.Scale.{finite}
 use Rattle.field.specs.declared.Vec3.{Vec3}
-use Rattle.field.specs.Vec.{Axis, on, null, origin, plus}
+use Rattle.field.specs.Vec.{Axis, at, on, null, origin, plus}
 use Rattle.field.specs.Count.{upto}
 use Rattle.field.proofs.Vectors.{on-each, on-plus, on-origin}
 use Rattle.field.proofs.Counting.{upto-map, upto-invariant}
 use Rattle.double.specs.Sums.{unsigned}
 use Rattle.double.proofs.Finite.{finite-add, finite-mul, unsigned-add, unsigned-square}
-use Rattle.operator.specs.Operator.{at}
 use Rattle.iterative.specs.Problem.{times, dotStep, fieldDot}
 
 pub on-times : (k : Axis) (a b : Vec3) → on k (times a b) ≡ mul binary64 (on k a) (on k b)

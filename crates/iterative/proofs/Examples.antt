@@ -12,20 +12,20 @@ use Rattle.field.specs.Vec.{null, origin, plus, minus, scale, over}
 use Rattle.field.specs.Count.{upto, field, lowest}
 use Rattle.field.specs.Buffer.{get}
 use Rattle.network.specs.Lists.{none}
-use Rattle.system.specs.System.{effective, pull, pointWeight, pullSum, meanOf, meanOffset, sees, departs, arrives, assembleRow, terms, greatest, anchorOf, addBearing, addDirection}
+use Rattle.system.specs.System.{effectiveIn, pullIn, weightSum, pullSum, meanOf, sumsFrom, one, sees, departs, arrives, assembleRow, assembleRows, greatest, anchorOf, addBearing, addDirection}
 use Rattle.iterative.specs.Problem.{times, dotStep, fieldDot, mostRounds}
-use Rattle.iterative.specs.Method.{State, ended, failed, boundOf, allowedOf, opening, remaining, flatAt, brokenAt, unfitAt, quotient, stepped, renewed, zeros, preconditioned, advanced, searching, difference, squareSum, start, badDiagonal, moved, turned, round, rounds, residualOf, solution}
-use Rattle.operator.specs.Operator.{changed, times as repeated, ridged, bearingStep, spanPass, pointStep, directionStep, reducedBy}
-use Rattle.iterative.specs.Reduced.{diagonalOf, rightOf, problem}
-use Rattle.iterative.specs.Edges.{whole, overflowing, tied}
+use Rattle.iterative.specs.Method.{State, accepted, refused, boundOf, allowedOf, startsActive, staysActive, badCurvature, badProduct, badResidual, quotient, stepped, searchStep, preconditionedEntry, steppedEntry, searchEntry, differenceEntry, squareSum, start, badDiagonal, moved, redirected, round, rounds, residualOf, solution}
+use Rattle.operator.specs.Operator.{changed, times as repeated, ridgeEntry, bearingStep, spanPass, pointStep, directionStep, reducedBy}
+use Rattle.iterative.specs.Reduced.{diagonalOf, rightEntry, problem, problemBy}
+use Rattle.system.specs.Edges.{directed, half, pair, single}
 
 -- to unfold this is to unfold what a solution is computed with
 unfoldable pub computing : Unit {0}
 unfolding upto field lowest get none total isNan greater magnitude root ofBits add sub mul div lt le plus minus scale over
-    effective pull pointWeight pullSum meanOf meanOffset sees departs arrives addBearing addDirection assembleRow terms greatest anchorOf
-    times dotStep fieldDot mostRounds boundOf allowedOf opening remaining flatAt brokenAt unfitAt quotient stepped renewed
-    zeros preconditioned advanced searching difference squareSum start badDiagonal moved turned round rounds residualOf solution
-    changed repeated ridged bearingStep spanPass pointStep directionStep reducedBy diagonalOf rightOf problem
+    effectiveIn pullIn weightSum pullSum meanOf sumsFrom sees departs arrives addBearing addDirection assembleRow assembleRows greatest anchorOf
+    times dotStep fieldDot mostRounds boundOf allowedOf startsActive staysActive badCurvature badProduct badResidual quotient stepped searchStep
+    preconditionedEntry steppedEntry searchEntry differenceEntry squareSum start badDiagonal moved redirected round rounds residualOf solution
+    changed repeated ridgeEntry bearingStep spanPass pointStep directionStep reducedBy diagonalOf rightEntry problemBy
 computing = tt
 
 -- a state in which every component is done
@@ -38,25 +38,25 @@ done positions residual search old count = record {
 }
 
 -- the whole case: anchor 0, camera 0 at zero, no round
-pub whole-anchor : problem whole .anchor ≡ 0
-unfolding computing whole
+pub whole-anchor : problem (single one half) .anchor ≡ 0
+unfolding computing single
 whole-anchor = refl
 
-pub whole-solution : solution (problem whole) ≡ ended (done (origin ∷ []) (origin ∷ []) (origin ∷ []) origin 0)
-unfolding computing whole
+pub whole-solution : solution (problem (single one half)) ≡ accepted (done (origin ∷ []) (origin ∷ []) (origin ∷ []) origin 0)
+unfolding computing single
 whole-solution = refl
 
 -- weight 1e300, scale 1e10: 9 at camera 1
-pub overflowing-fails : solution (problem overflowing) ≡ failed 9 1
-unfolding computing overflowing
+pub overflowing-fails : solution (problem pair) ≡ refused 9 1
+unfolding computing directed
 overflowing-fails = refl
 
 -- one round: camera 1 at 1 / (1 + 1e-6)
 abbrev pub beside : Vec3
 beside = record { x = ofBits binary64 0x3feffffde7212f19; y = null; z = null }
 
-pub tied-solution : solution (problem tied) ≡ ended (done (origin ∷ beside ∷ []) (origin ∷ origin ∷ []) (origin ∷ beside ∷ []) beside 1)
-unfolding computing tied
+pub tied-solution : solution (problem (directed one one)) ≡ accepted (done (origin ∷ beside ∷ []) (origin ∷ origin ∷ []) (origin ∷ beside ∷ []) beside 1)
+unfolding computing directed
 tied-solution = refl
 
 -- the most rounds

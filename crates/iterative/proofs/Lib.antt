@@ -1,12 +1,10 @@
--- the acceptance theorem, and answers on small networks
 pub mod CameraSums
 pub mod Tolerances
 pub mod RunInvariant
 pub mod Acceptance
+pub mod Kept
+pub mod Entries
+pub mod Rounding
+pub mod Running
+pub mod Solving
 pub mod Examples
--- the code
-pub mod Fills
-pub mod Keeping
-pub mod Turns
-pub mod Runs
-pub mod Placed

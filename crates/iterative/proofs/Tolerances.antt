@@ -5,30 +5,16 @@ use Prim.Native.Nat.{ℕ, zero, suc, _+_, _*_, _^_}
 use lib.IntN.{ℤ}
 use lib.Dec.{ltb, eqb·suc-zero}
 use lib.Ieee.{Float, nan, inf, fin, Format, binary64, prec, low, emax, odd, units, add, mul, ofBits, isNan}
-use lib.Ieee.Exact.{HasValue, odd-sign}
 use Rattle.field.specs.declared.Vec3.{Vec3}
 use Rattle.field.specs.Vec.{Axis, on}
 use Rattle.field.proofs.Vectors.{on-each}
 use Rattle.double.specs.Sums.{unsigned}
-use Rattle.double.proofs.Finite.{unsigned-round, unsigned-add, unsigned-square, unsigned-no-nan}
+use Rattle.double.proofs.Finite.{unsigned-round, unsigned-units, unsigned-add, unsigned-square, unsigned-no-nan}
 use Rattle.sqrt.specs.Root.{nearestRoot, root}
-use Rattle.iterative.specs.Method.{absolute, relative, squared, allowedOf}
+use Rattle.iterative.specs.Method.{relative, squared, allowedOf}
+use Rattle.system.specs.System.{tiny}
 
 -- ---- the root of a number that is neither NaN nor of negative sign is such a number
-
-unsigned-value : (x : Float) (a c : ℕ) → HasValue x false a c → unsigned x ≡ true
-unsigned-value nan a c v = absurd v
-unsigned-value (inf s) a c v = absurd v
-unsigned-value (fin true m e) a c v = absurd (true≢false (v .0))
-unsigned-value (fin false m e) a c v = refl
-
-unsigned-units : (f : Format) (q k : ℕ) → unsigned (units f false q k) ≡ true
-unfolding units
-unsigned-units f q k = go (ltb (q * 2 ^ k) (2 ^ (low f + suc (emax f))))
-  where
-    go : (b : Bool) → unsigned (cond b (odd (suc (prec f)) false q k (low f)) (inf false)) ≡ true
-    go true = unsigned-value (odd (suc (prec f)) false q k (low f)) (q * 2 ^ k) (2 ^ low f) (odd-sign (suc (prec f)) false q k (low f))
-    go false = refl
 
 pub unsigned-root : (f : Format) (x : Float) → unsigned x ≡ true → unsigned (root f x) ≡ true
 unfolding root nearestRoot
@@ -55,7 +41,7 @@ pub allowed-no-nan : (k : Axis) (sums : Vec3) → unsigned (on k sums) ≡ true 
 unfolding allowedOf ofBits
 allowed-no-nan k sums h =
     let r = root binary64 (on k sums) in
-    let s : unsigned (add binary64 (mul binary64 relative r) absolute) ≡ true =
-    unsigned-add binary64 (mul binary64 relative r) absolute (unsigned-scaled binary64 _ _ r (unsigned-root binary64 (on k sums) h)) refl in
-    ap isNan (on-each k (λ j. squared (add binary64 (mul binary64 relative (root binary64 (on j sums))) absolute)))
-    ∙ unsigned-no-nan _ (unsigned-square binary64 (add binary64 (mul binary64 relative r) absolute) (unsigned-no-nan _ s))
+    let s : unsigned (add binary64 (mul binary64 relative r) tiny) ≡ true =
+    unsigned-add binary64 (mul binary64 relative r) tiny (unsigned-scaled binary64 _ _ r (unsigned-root binary64 (on k sums) h)) refl in
+    ap isNan (on-each k (λ j. squared (add binary64 (mul binary64 relative (root binary64 (on j sums))) tiny)))
+    ∙ unsigned-no-nan _ (unsigned-square binary64 (add binary64 (mul binary64 relative r) tiny) (unsigned-no-nan _ s))

@@ -103,30 +103,41 @@ stepped op active alpha v w = each (λ k. cond (flag k active) (op (on k v) (mul
 unfoldable pub searchStep : Active → Vec3 → Vec3 → Vec3 → Vec3
 searchStep active beta z p = each (λ k. cond (flag k active) (add binary64 (on k z) (mul binary64 (on k beta) (on k p))) null)
 
--- ---- operations on fields of n cameras, whose anchor is a
-
--- h at the anchor, and g at each other camera
-abbrev pub others : ℕ → ℕ → (ℕ → Vec3) → (ℕ → Vec3) → List Vec3
-others n a h g = field n (λ i. cond (eqb i a) (h i) (g i))
+-- ---- operations on fields of n cameras, whose anchor is a: camera i's vector of each, and the field
 
 -- zero at every camera
-unfoldable pub zeros : ℕ → List Vec3
-zeros n = field n (λ i. origin)
+abbrev pub zeroEntry : ℕ → Vec3
+zeroEntry i = origin
+
+abbrev pub zeros : ℕ → List Vec3
+zeros n = field n zeroEntry
 
 -- r over the diagonal d; zero at the anchor
-unfoldable pub preconditioned : ℕ → ℕ → (ℕ → Float) → List Vec3 → List Vec3
-preconditioned n a d r = others n a (λ i. origin) (λ i. over (at r i) (d i))
+unfoldable pub preconditionedEntry : ℕ → (ℕ → Float) → List Vec3 → ℕ → Vec3
+preconditionedEntry a d r i = cond (eqb i a) origin (over (at r i) (d i))
+
+abbrev pub preconditioned : ℕ → ℕ → (ℕ → Float) → List Vec3 → List Vec3
+preconditioned n a d r = field n (preconditionedEntry a d r)
 
 -- f stepped along g; the anchor stands still
-unfoldable pub steppedField : ℕ → ℕ → (Float → Float → Float) → Active → Vec3 → List Vec3 → List Vec3 → List Vec3
-steppedField n a op active alpha f g = others n a (at f) (λ i. stepped op active alpha (at f i) (at g i))
+unfoldable pub steppedEntry : ℕ → (Float → Float → Float) → Active → Vec3 → List Vec3 → List Vec3 → ℕ → Vec3
+steppedEntry a op active alpha f g i = cond (eqb i a) (at f i) (stepped op active alpha (at f i) (at g i))
+
+abbrev pub steppedField : ℕ → ℕ → (Float → Float → Float) → Active → Vec3 → List Vec3 → List Vec3 → List Vec3
+steppedField n a op active alpha f g = field n (steppedEntry a op active alpha f g)
 
 -- the next search vector, of z and p; at the anchor too
-unfoldable pub searchField : ℕ → Active → Vec3 → List Vec3 → List Vec3 → List Vec3
-searchField n active beta z p = field n (λ i. searchStep active beta (at z i) (at p i))
+unfoldable pub searchEntry : Active → Vec3 → List Vec3 → List Vec3 → ℕ → Vec3
+searchEntry active beta z p i = searchStep active beta (at z i) (at p i)
 
-unfoldable pub difference : ℕ → List Vec3 → List Vec3 → List Vec3
-difference n f g = field n (λ i. minus (at f i) (at g i))
+abbrev pub searchField : ℕ → Active → Vec3 → List Vec3 → List Vec3 → List Vec3
+searchField n active beta z p = field n (searchEntry active beta z p)
+
+unfoldable pub differenceEntry : List Vec3 → List Vec3 → ℕ → Vec3
+differenceEntry f g i = minus (at f i) (at g i)
+
+abbrev pub difference : ℕ → List Vec3 → List Vec3 → List Vec3
+difference n f g = field n (differenceEntry f g)
 
 -- the diagonal d cannot precondition camera i: 9 where it is not finite, 10 where it is finite and not above 0
 unfoldable pub badDiagonal : ℕ → (ℕ → Float) → ℕ → Bool

@@ -18,8 +18,11 @@ unfoldable pub diagonalOf : List CameraTerm → ℕ → Float
 diagonalOf ts i = add binary64 (termAt ts i .diagonal) ridge
 
 -- the right side of n cameras, zero at the anchor a
-unfoldable pub rightOf : ℕ → ℕ → List CameraTerm → List Vec3
-rightOf n a ts = field n (λ i. cond (eqb i a) origin (termAt ts i .right))
+unfoldable pub rightEntry : ℕ → List CameraTerm → ℕ → Vec3
+rightEntry a ts i = cond (eqb i a) origin (termAt ts i .right)
+
+abbrev pub rightOf : ℕ → ℕ → List CameraTerm → List Vec3
+rightOf n a ts = field n (rightEntry a ts)
 
 -- the system of links L, weights w, camera terms ts and the anchor a
 unfoldable pub problemBy : Links → Weights → List CameraTerm → ℕ → Problem

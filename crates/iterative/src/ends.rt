@@ -1,11 +1,11 @@
-// The start and the end of the solve.
+// The start and the end of the solve: `solve_reduced_pcg` before and after its rounds.
 use crate::Outcome;
 use crate::Round;
 use crate::Step;
 use crate::components::allowed;
 use crate::components::bound;
-use crate::components::opening;
-use crate::components::unfit;
+use crate::components::find_bad_residual;
+use crate::components::starts_active;
 use crate::fields::field_dot;
 use crate::fields::precondition;
 use crate::fields::set_right;
@@ -15,14 +15,19 @@ use field::Place;
 use field::Vec3;
 use network::Shape;
 use operator::held::apply;
+use system::work::applied_at;
+use system::work::positions_at;
+use system::work::residual_at;
+use system::work::right_at;
+use system::work::search_at;
 ghost use mathlib.Core.Path.{_≡_};
 ghost use lib.ListN.{length};
 ghost use Prim.Native.Nat.{_≤_};
+ghost use Rattle.network.specs.Network.{links};
+ghost use Rattle.network.specs.inner.Sound.{LinksSound};
 ghost use Rattle.system.specs.Work.{matrixAt};
-ghost use Rattle.operator.specs.Operator.{links};
-ghost use Rattle.operator.specs.Posed.{Linked};
-ghost use Rattle.iterative.specs.Solver.{Roomy, Summed, Opened, firstOf, Settled, Tested, Concluded, stateOf, runOf, standing};
 ghost use Rattle.iterative.specs.Method.{ended};
+ghost use Rattle.iterative.specs.inner.Solver.{FieldsFit, Opened, Started, rightSums, firstRound, Settled, Tested, Concluded, stateIn, runIn, problemIn};
 
 // What the method starts with: the square sums of the right side, and the first round's record.
 pub(crate) struct Opening {
@@ -31,38 +36,37 @@ pub(crate) struct Opening {
 }
 
 // The right side; positions zero; the residual, which is the right side; the search vector.
-fn open(work: &mut [f64], n: usize, anchor: usize)
-    requires { ⌜ Roomy n (length (now work)) ⌝ }
-    ensures { λ r. ⌜ Opened n anchor (now (work .entry)) (now (work .exit)) ⌝ }
+fn open(s: Shape, work: &mut [f64], anchor: usize)
+    requires { ⌜ FieldsFit s (length (now work)) ⌝ }
+    ensures { λ r. ⌜ Opened s anchor (now (work .entry)) (now (work .exit)) ⌝ }
 {
-    set_right(work, n, anchor, 8 * n);
-    set_zero(work, n, 5 * n);
-    set_right(work, n, anchor, 11 * n);
-    precondition(work, n, anchor, 11 * n, 17 * n);
+    set_right(s, work, anchor, right_at(s));
+    set_zero(s, work, positions_at(s));
+    set_right(s, work, anchor, residual_at(s));
+    precondition(s, work, anchor, residual_at(s), search_at(s));
 }
 
-fn first_round(work: &[f64], n: usize, anchor: usize, sums: Vec3) -> Round
-    requires { ⌜ Roomy n (length (now work)) ⌝ }
-    ensures { λ r. ⌜ r ≡ firstOf n anchor (now (work .entry)) sums ⌝ }
+fn first_round(s: Shape, work: &[f64], anchor: usize, sums: Vec3) -> Round
+    requires { ⌜ FieldsFit s (length (now work)) ⌝ }
+    ensures { λ r. ⌜ r ≡ firstRound s anchor (now (work .entry)) sums ⌝ }
 {
     Round {
-        old: field_dot(work, n, anchor, 11 * n, 17 * n),
-        active: opening(bound(sums), sums),
+        old: field_dot(work, s.cameras, anchor, residual_at(s), search_at(s)),
+        active: starts_active(bound(sums), sums),
         count: 0,
     }
 }
 
-pub(crate) fn start(work: &mut [f64], n: usize, anchor: usize) -> Opening
-    requires { ⌜ Roomy n (length (now work)) ⌝ }
-    ensures { λ r. ⌜ Opened n anchor (now (work .entry)) (now (work .exit)) ⌝ }
-    ensures { λ r. ⌜ Summed n anchor (now (work .exit)) (r .sums) ⌝ }
-    ensures { λ r. ⌜ r .round ≡ firstOf n anchor (now (work .exit)) (r .sums) ⌝ }
+pub(crate) fn start(s: Shape, work: &mut [f64], anchor: usize) -> Opening
+    requires { ⌜ FieldsFit s (length (now work)) ⌝ }
+    ensures { λ r. ⌜ Started s anchor (now (work .entry)) (now (work .exit)) (r .sums) (r .round) ⌝ }
 {
-    open(work, n, anchor);
-    let sums = field_dot(work, n, anchor, 8 * n, 8 * n);
+    open(s, work, anchor);
+    let at = right_at(s);
+    let sums = field_dot(work, s.cameras, anchor, at, at);
     Opening {
         sums: sums,
-        round: first_round(work, n, anchor, sums),
+        round: first_round(s, work, anchor, sums),
     }
 }
 
@@ -75,14 +79,15 @@ fn residual(
     work: &mut [f64],
     anchor: usize,
 ) -> Vec3
-    requires { ⌜ Linked (links s (now ends) (now offsets) (now listed)) ⌝ }
+    requires { ⌜ LinksSound (links s (now ends) (now offsets) (now listed)) ⌝ }
     requires { ⌜ matrixAt s ≤ length (now work) ⌝ }
-    ensures { λ v. ⌜ Settled (standing (links s (now (ends .entry)) (now (offsets .entry)) (now (listed .entry))) anchor (now (work .entry))) (now (work .entry)) (now (work .exit)) v ⌝ }
+    ensures { λ v. ⌜ Settled s (problemIn (links s (now (ends .entry)) (now (offsets .entry)) (now (listed .entry))) anchor (now (work .entry)))
+        (now (work .entry)) (now (work .exit)) v ⌝ }
 {
-    let n = s.cameras;
-    apply(work, s, ends, offsets, listed, anchor, 5 * n, 20 * n);
-    subtract(work, n, 8 * n, 20 * n);
-    field_dot(work, n, anchor, 20 * n, 20 * n)
+    let at = applied_at(s);
+    apply(work, s, ends, offsets, listed, anchor, positions_at(s), at);
+    subtract(s, work, right_at(s), at);
+    field_dot(work, s.cameras, anchor, at, at)
 }
 
 // The lowest component that fails the final test (13).
@@ -95,13 +100,14 @@ fn finish(
     anchor: usize,
     sums: Vec3,
 ) -> Place
-    requires { ⌜ Linked (links s (now ends) (now offsets) (now listed)) ⌝ }
+    requires { ⌜ LinksSound (links s (now ends) (now offsets) (now listed)) ⌝ }
     requires { ⌜ matrixAt s ≤ length (now work) ⌝ }
-    requires { ⌜ Summed (s .cameras) anchor (now work) sums ⌝ }
-    ensures { λ r. ⌜ Tested (standing (links s (now (ends .entry)) (now (offsets .entry)) (now (listed .entry))) anchor (now (work .entry))) (now (work .entry)) (now (work .exit)) r ⌝ }
+    requires { ⌜ sums ≡ rightSums s anchor (now work) ⌝ }
+    ensures { λ r. ⌜ Tested s (problemIn (links s (now (ends .entry)) (now (offsets .entry)) (now (listed .entry))) anchor (now (work .entry)))
+        (now (work .entry)) (now (work .exit)) r ⌝ }
 {
     let v = residual(s, ends, offsets, listed, work, anchor);
-    unfit(allowed(sums), v)
+    find_bad_residual(allowed(sums), v)
 }
 
 // The answer to a run that ended with the record r.
@@ -115,13 +121,14 @@ fn judge(
     sums: Vec3,
     r: Round,
 ) -> Outcome
-    requires { ⌜ Linked (links s (now ends) (now offsets) (now listed)) ⌝ }
+    requires { ⌜ LinksSound (links s (now ends) (now offsets) (now listed)) ⌝ }
     requires { ⌜ matrixAt s ≤ length (now work) ⌝ }
-    requires { ⌜ Summed (s .cameras) anchor (now work) sums ⌝ }
-    ensures { λ o. ⌜ Concluded (standing (links s (now (ends .entry)) (now (offsets .entry)) (now (listed .entry))) anchor (now (work .entry))) (ended (stateOf (s .cameras) (now (work .entry)) r)) (now (work .entry)) (now (work .exit)) o ⌝ }
+    requires { ⌜ sums ≡ rightSums s anchor (now work) ⌝ }
+    ensures { λ o. ⌜ Concluded s (problemIn (links s (now (ends .entry)) (now (offsets .entry)) (now (listed .entry))) anchor (now (work .entry)))
+        (ended (stateIn s (now (work .entry)) r)) (now (work .entry)) (now (work .exit)) o ⌝ }
 {
-    let unfit_place = finish(s, ends, offsets, listed, work, anchor, sums);
-    match unfit_place {
+    let place = finish(s, ends, offsets, listed, work, anchor, sums);
+    match place {
         Place::At(i) => Outcome::Failed {
             number: 13,
             place: i,
@@ -141,14 +148,15 @@ pub(crate) fn conclude(
     sums: Vec3,
     x: Step,
 ) -> Outcome
-    requires { ⌜ Linked (links s (now ends) (now offsets) (now listed)) ⌝ }
+    requires { ⌜ LinksSound (links s (now ends) (now offsets) (now listed)) ⌝ }
     requires { ⌜ matrixAt s ≤ length (now work) ⌝ }
-    requires { ⌜ Summed (s .cameras) anchor (now work) sums ⌝ }
-    ensures { λ o. ⌜ Concluded (standing (links s (now (ends .entry)) (now (offsets .entry)) (now (listed .entry))) anchor (now (work .entry))) (runOf (s .cameras) (now (work .entry)) x) (now (work .entry)) (now (work .exit)) o ⌝ }
+    requires { ⌜ sums ≡ rightSums s anchor (now work) ⌝ }
+    ensures { λ o. ⌜ Concluded s (problemIn (links s (now (ends .entry)) (now (offsets .entry)) (now (listed .entry))) anchor (now (work .entry)))
+        (runIn s (now (work .entry)) x) (now (work .entry)) (now (work .exit)) o ⌝ }
 {
     match x {
         Step::Failed(number, place) => Outcome::Failed { number, place },
-        Step::Going(r) => judge(s, ends, offsets, listed, work, anchor, sums, r),
+        Step::Running(r) => judge(s, ends, offsets, listed, work, anchor, sums, r),
         Step::Ended(r) => judge(s, ends, offsets, listed, work, anchor, sums, r),
     }
 }

@@ -12,21 +12,23 @@ use field::zero;
 use network::Shape;
 use system::get_term;
 ghost use mathlib.Core.Path.{_≡_};
-ghost use mathlib.Core.Bool.{not, _&&_, _||_};
+ghost use mathlib.Core.Bool.{cond, not, _&&_, _||_};
 ghost use Prim.Native.Nat.{_+_, _*_, _<_, _≤_};
 ghost use lib.Dec.{eqb};
 ghost use lib.ListN.{length};
 ghost use lib.Ieee.{lt};
 ghost use lib.Ieee.Scale.{finite};
-ghost use Rattle.field.specs.Vec.{null};
+ghost use Rattle.field.specs.Vec.{null, origin, minus, over};
 ghost use Rattle.field.specs.Count.{lowest};
-ghost use Rattle.field.specs.Buffer.{load, store, vector};
-ghost use Rattle.system.specs.Work.{term};
-ghost use Rattle.iterative.specs.Problem.{times as products, dotStep, fieldDot};
-ghost use Rattle.iterative.specs.Method.{zeros, preconditioned, steppedField, searchField, difference, badDiagonal};
+ghost use Rattle.field.specs.Buffer.{get, put, load, store, vector};
+ghost use Rattle.system.specs.Work.{term, termPlace};
 ghost use Rattle.operator.specs.inner.Applied.{Ordered};
+ghost use Rattle.iterative.specs.Problem.{times as products, dotStep, fieldDot};
+ghost use Rattle.iterative.specs.Method.{zeros, stepped as steppedOf, searchStep, searchField, difference, badDiagonal};
 ghost use Rattle.iterative.specs.Reduced.{diagonalOf, rightOf};
-ghost use Rattle.iterative.specs.inner.Solver.{signed};
+ghost use Rattle.iterative.specs.inner.Solver.{FieldAt, FieldStepped, FieldsFit, Preconditioned, TurnPreconditioned, TurnStepped, diagonalIn, signed};
+
+// ---- sums
 
 // The products on each axis.
 fn times(a: Vec3, b: Vec3) -> Vec3
@@ -51,7 +53,7 @@ fn dot_step(work: &[f64], n: usize, anchor: usize, p: usize, q: usize, i: usize,
     sum.add(v)
 }
 
-// For each component the sum of the products of the fields at p and q, over all cameras but the anchor.
+// For each component the sum of the products of the fields at p and q, over all cameras but the anchor: `reduced_dot`.
 pub(crate) fn field_dot(work: &[f64], n: usize, anchor: usize, p: usize, q: usize) -> Vec3
     requires { ⌜ (p + 3 * n ≤ length (now work)) × (q + 3 * n ≤ length (now work)) ⌝ }
     ensures { λ r. ⌜ r ≡ fieldDot n anchor (load vector (now (work .entry)) p n) (load vector (now (work .entry)) q n) ⌝ }
@@ -63,6 +65,16 @@ pub(crate) fn field_dot(work: &[f64], n: usize, anchor: usize, p: usize, q: usiz
         i += 1;
     }
     sum
+}
+
+// ---- the diagonal
+
+// Camera i's diagonal with the ridge.
+pub(crate) fn ridged_diagonal(work: &[f64], i: usize) -> f64
+    requires { ⌜ (i < 4096) × (termPlace (i + 1) ≤ length (now work)) ⌝ }
+    ensures { λ d. ⌜ d ≡ diagonalIn (now (work .entry)) i ⌝ }
+{
+    get_term(work, i).diagonal + 1e-6
 }
 
 // Camera i, whose diagonal with the ridge is d, cannot be preconditioned.
@@ -79,13 +91,14 @@ fn bad_at(i: usize, anchor: usize, d: f64) -> bool
 }
 
 // The lowest camera whose diagonal with the ridge is not finite, or not above 0.
-pub(crate) fn find_bad_diagonal(work: &[f64], n: usize, anchor: usize) -> Place
-    requires { ⌜ (n ≤ 4096) × (5 * n ≤ length (now work)) ⌝ }
-    ensures { λ r. ⌜ r ≡ lowest (badDiagonal anchor (diagonalOf (load term (now (work .entry)) 0 n))) n ⌝ }
+pub(crate) fn find_bad_diagonal(s: Shape, work: &[f64], anchor: usize) -> Place
+    requires { ⌜ FieldsFit s (length (now work)) ⌝ }
+    ensures { λ r. ⌜ r ≡ lowest (badDiagonal anchor (diagonalOf (load term (now (work .entry)) 0 (s .cameras)))) (s .cameras) ⌝ }
 {
+    let n = s.cameras;
     let mut i = 0usize;
     while i < n {
-        if bad_at(i, anchor, work[5 * i] + 1e-6) {
+        if bad_at(i, anchor, ridged_diagonal(work, i)) {
             return Place::At(i);
         }
         i += 1;
@@ -93,23 +106,34 @@ pub(crate) fn find_bad_diagonal(work: &[f64], n: usize, anchor: usize) -> Place
     Place::Nowhere
 }
 
-// The right side, and zero at the anchor.
-pub(crate) fn set_right(work: &mut [f64], n: usize, anchor: usize, into: usize)
-    requires { ⌜ (n ≤ 4096) × (5 * n ≤ into) × (into + 3 * n ≤ length (now work)) ⌝ }
-    ensures { λ r. ⌜ now (work .exit) ≡ store vector (now (work .entry)) into (rightOf n anchor (load term (now (work .entry)) 0 n)) ⌝ }
+// ---- fields that are filled: each by one camera's vector after another
+
+fn put_right(work: &mut [f64], anchor: usize, into: usize, i: usize)
+    requires { ⌜ (i < 4096) × (termPlace (i + 1) ≤ length (now work)) × (into + 3 * i + 3 ≤ length (now work)) ⌝ }
+    ensures { λ r. ⌜ now (work .exit) ≡ put vector (now (work .entry)) (into + 3 * i) (cond (eqb i anchor) origin (get term (now (work .entry)) (termPlace i) .right)) ⌝ }
 {
+    let t = get_term(work, i);
+    put3(work, into + 3 * i, anchored(i, anchor, zero(), t.right));
+}
+
+// The right side, and zero at the anchor.
+pub(crate) fn set_right(s: Shape, work: &mut [f64], anchor: usize, into: usize)
+    requires { ⌜ FieldAt s into (length (now work)) ⌝ }
+    ensures { λ r. ⌜ now (work .exit) ≡ store vector (now (work .entry)) into (rightOf (s .cameras) anchor (load term (now (work .entry)) 0 (s .cameras))) ⌝ }
+{
+    let n = s.cameras;
     let mut i = 0usize;
     while i < n {
-        let v = anchored(i, anchor, zero(), get3(work, 5 * i + 1));
-        put3(work, into + 3 * i, v);
+        put_right(work, anchor, into, i);
         i += 1;
     }
 }
 
-pub(crate) fn set_zero(work: &mut [f64], n: usize, into: usize)
-    requires { ⌜ (n ≤ 4096) × (into + 3 * n ≤ length (now work)) ⌝ }
-    ensures { λ r. ⌜ now (work .exit) ≡ store vector (now (work .entry)) into (zeros n) ⌝ }
+pub(crate) fn set_zero(s: Shape, work: &mut [f64], into: usize)
+    requires { ⌜ FieldAt s into (length (now work)) ⌝ }
+    ensures { λ r. ⌜ now (work .exit) ≡ store vector (now (work .entry)) into (zeros (s .cameras)) ⌝ }
 {
+    let n = s.cameras;
     let mut i = 0usize;
     while i < n {
         put3(work, into + 3 * i, zero());
@@ -117,32 +141,60 @@ pub(crate) fn set_zero(work: &mut [f64], n: usize, into: usize)
     }
 }
 
-// The field at `from` over the diagonal with the ridge, and zero at the anchor. Returned is the dot of the two fields, which rides on the pass.
-pub(crate) fn precondition(
+fn put_preconditioned(work: &mut [f64], anchor: usize, from: usize, into: usize, i: usize)
+    requires { ⌜ (i < 4096) × (termPlace (i + 1) ≤ length (now work)) × (from + 3 * i + 3 ≤ length (now work)) × (into + 3 * i + 3 ≤ length (now work)) ⌝ }
+    ensures { λ r. ⌜ now (work .exit) ≡ put vector (now (work .entry)) (into + 3 * i)
+        (cond (eqb i anchor) origin (over (get vector (now (work .entry)) (from + 3 * i)) (diagonalIn (now (work .entry)) i))) ⌝ }
+{
+    let v = get3(work, from + 3 * i).div(ridged_diagonal(work, i));
+    put3(work, into + 3 * i, anchored(i, anchor, zero(), v));
+}
+
+// The same, and camera i's products with the field at `from` added to the sum.
+fn precondition_at(
     work: &mut [f64],
     n: usize,
     anchor: usize,
     from: usize,
     into: usize,
+    i: usize,
+    sum: Vec3,
 ) -> Vec3
-    requires { ⌜ Ordered n from into (length (now work)) ⌝ }
-    ensures { λ r. ⌜ now (work .exit) ≡ store vector (now (work .entry)) into (preconditioned n anchor (diagonalOf (load term (now (work .entry)) 0 n)) (load vector (now (work .entry)) from n)) ⌝ }
-    ensures { λ r. ⌜ r ≡ fieldDot n anchor (load vector (now (work .entry)) from n) (preconditioned n anchor (diagonalOf (load term (now (work .entry)) 0 n)) (load vector (now (work .entry)) from n)) ⌝ }
+    requires { ⌜ (n ≤ 4096) × (i < n) × (termPlace n ≤ length (now work)) × (from + 3 * n ≤ length (now work)) × (into + 3 * n ≤ length (now work)) ⌝ }
+    ensures { λ r. ⌜ TurnPreconditioned n anchor from into i sum (now (work .entry)) (now (work .exit)) r ⌝ }
 {
+    put_preconditioned(work, anchor, from, into, i);
+    dot_step(work, n, anchor, from, into, i, sum)
+}
+
+// The field at `from` over the diagonal with the ridge, and zero at the anchor. Returned is the dot of the two fields, summed in the same pass.
+pub(crate) fn precondition(s: Shape, work: &mut [f64], anchor: usize, from: usize, into: usize) -> Vec3
+    requires { ⌜ Ordered s from into (length (now work)) ⌝ }
+    ensures { λ r. ⌜ Preconditioned s anchor from into (now (work .entry)) (now (work .exit)) r ⌝ }
+{
+    let n = s.cameras;
     let mut sum = zero();
     let mut i = 0usize;
     while i < n {
-        let u = get3(work, from + 3 * i).div(work[5 * i] + 1e-6);
-        let v = anchored(i, anchor, zero(), u);
-        put3(work, into + 3 * i, v);
-        sum = dot_step(work, n, anchor, from, into, i, sum);
+        sum = precondition_at(work, n, anchor, from, into, i, sum);
         i += 1;
     }
     sum
 }
 
-// The field at `into` stepped along the field at `along`, but for the anchor. Returned is its dot with itself, which rides on the pass.
-pub(crate) fn step_field(
+fn put_stepped(work: &mut [f64], anchor: usize, adds: bool, active: Active, alpha: Vec3, into: usize, along: usize, i: usize)
+    requires { ⌜ (i < 4096) × (into + 3 * i + 3 ≤ length (now work)) × (along + 3 * i + 3 ≤ length (now work)) ⌝ }
+    ensures { λ r. ⌜ now (work .exit) ≡ put vector (now (work .entry)) (into + 3 * i)
+        (cond (eqb i anchor) (get vector (now (work .entry)) (into + 3 * i))
+            (steppedOf (signed adds) active alpha (get vector (now (work .entry)) (into + 3 * i)) (get vector (now (work .entry)) (along + 3 * i)))) ⌝ }
+{
+    let v = get3(work, into + 3 * i);
+    let w = stepped(adds, active, alpha, v, get3(work, along + 3 * i));
+    put3(work, into + 3 * i, anchored(i, anchor, v, w));
+}
+
+// The same, and the squares of camera i's vector added to the sum.
+fn step_at(
     work: &mut [f64],
     n: usize,
     anchor: usize,
@@ -151,53 +203,83 @@ pub(crate) fn step_field(
     alpha: Vec3,
     into: usize,
     along: usize,
+    i: usize,
+    sum: Vec3,
 ) -> Vec3
-    requires { ⌜ Ordered n into along (length (now work)) ⌝ }
-    ensures { λ r. ⌜ now (work .exit) ≡ store vector (now (work .entry)) into (steppedField n anchor (signed adds) active alpha (load vector (now (work .entry)) into n) (load vector (now (work .entry)) along n)) ⌝ }
-    ensures { λ r. ⌜ r ≡ fieldDot n anchor (steppedField n anchor (signed adds) active alpha (load vector (now (work .entry)) into n) (load vector (now (work .entry)) along n)) (steppedField n anchor (signed adds) active alpha (load vector (now (work .entry)) into n) (load vector (now (work .entry)) along n)) ⌝ }
+    requires { ⌜ (n ≤ 4096) × (i < n) × (into + 3 * n ≤ length (now work)) × (along + 3 * n ≤ length (now work)) ⌝ }
+    ensures { λ r. ⌜ TurnStepped n anchor (signed adds) active alpha into along i sum (now (work .entry)) (now (work .exit)) r ⌝ }
 {
+    put_stepped(work, anchor, adds, active, alpha, into, along, i);
+    dot_step(work, n, anchor, into, into, i, sum)
+}
+
+// The field at `into` stepped along the field at `along`, but for the anchor. Returned is its dot with itself, summed in the same pass.
+pub(crate) fn step_field(
+    s: Shape,
+    work: &mut [f64],
+    anchor: usize,
+    adds: bool,
+    active: Active,
+    alpha: Vec3,
+    into: usize,
+    along: usize,
+) -> Vec3
+    requires { ⌜ Ordered s into along (length (now work)) ⌝ }
+    ensures { λ r. ⌜ FieldStepped s anchor (signed adds) active alpha into along (now (work .entry)) (now (work .exit)) r ⌝ }
+{
+    let n = s.cameras;
     let mut sum = zero();
     let mut i = 0usize;
     while i < n {
-        let v = get3(work, into + 3 * i);
-        let w = stepped(adds, active, alpha, v, get3(work, along + 3 * i));
-        put3(work, into + 3 * i, anchored(i, anchor, v, w));
-        sum = dot_step(work, n, anchor, into, into, i, sum);
+        sum = step_at(work, n, anchor, adds, active, alpha, into, along, i, sum);
         i += 1;
     }
     sum
 }
 
-// The search vector at `into`, search_step along the field at `from`.
-pub(crate) fn update_search(
-    work: &mut [f64],
-    n: usize,
-    active: Active,
-    beta: Vec3,
-    from: usize,
-    into: usize,
-)
-    requires { ⌜ Ordered n from into (length (now work)) ⌝ }
-    ensures { λ r. ⌜ now (work .exit) ≡ store vector (now (work .entry)) into (searchField n active beta (load vector (now (work .entry)) from n) (load vector (now (work .entry)) into n)) ⌝ }
+fn put_search(work: &mut [f64], active: Active, beta: Vec3, from: usize, into: usize, i: usize)
+    requires { ⌜ (i < 4096) × (from + 3 * i + 3 ≤ length (now work)) × (into + 3 * i + 3 ≤ length (now work)) ⌝ }
+    ensures { λ r. ⌜ now (work .exit) ≡ put vector (now (work .entry)) (into + 3 * i)
+        (searchStep active beta (get vector (now (work .entry)) (from + 3 * i)) (get vector (now (work .entry)) (into + 3 * i))) ⌝ }
 {
+    let z = get3(work, from + 3 * i);
+    let v = search_step(active, beta, z, get3(work, into + 3 * i));
+    put3(work, into + 3 * i, v);
+}
+
+// The next search vector at `into`, of the field at `from`.
+pub(crate) fn update_search(s: Shape, work: &mut [f64], active: Active, beta: Vec3, from: usize, into: usize)
+    requires { ⌜ Ordered s from into (length (now work)) ⌝ }
+    ensures { λ r. ⌜ now (work .exit) ≡ store vector (now (work .entry)) into
+        (searchField (s .cameras) active beta (load vector (now (work .entry)) from (s .cameras)) (load vector (now (work .entry)) into (s .cameras))) ⌝ }
+{
+    let n = s.cameras;
     let mut i = 0usize;
     while i < n {
-        let z = get3(work, from + 3 * i);
-        let v = search_step(active, beta, z, get3(work, into + 3 * i));
-        put3(work, into + 3 * i, v);
+        put_search(work, active, beta, from, into, i);
         i += 1;
     }
 }
 
-// The field at `into` less the field at `from`.
-pub(crate) fn subtract(work: &mut [f64], n: usize, from: usize, into: usize)
-    requires { ⌜ Ordered n from into (length (now work)) ⌝ }
-    ensures { λ r. ⌜ now (work .exit) ≡ store vector (now (work .entry)) into (difference n (load vector (now (work .entry)) into n) (load vector (now (work .entry)) from n)) ⌝ }
+fn put_difference(work: &mut [f64], from: usize, into: usize, i: usize)
+    requires { ⌜ (i < 4096) × (from + 3 * i + 3 ≤ length (now work)) × (into + 3 * i + 3 ≤ length (now work)) ⌝ }
+    ensures { λ r. ⌜ now (work .exit) ≡ put vector (now (work .entry)) (into + 3 * i)
+        (minus (get vector (now (work .entry)) (into + 3 * i)) (get vector (now (work .entry)) (from + 3 * i))) ⌝ }
 {
+    let v = get3(work, into + 3 * i).sub(get3(work, from + 3 * i));
+    put3(work, into + 3 * i, v);
+}
+
+// The field at `into` less the field at `from`.
+pub(crate) fn subtract(s: Shape, work: &mut [f64], from: usize, into: usize)
+    requires { ⌜ Ordered s from into (length (now work)) ⌝ }
+    ensures { λ r. ⌜ now (work .exit) ≡ store vector (now (work .entry)) into
+        (difference (s .cameras) (load vector (now (work .entry)) into (s .cameras)) (load vector (now (work .entry)) from (s .cameras))) ⌝ }
+{
+    let n = s.cameras;
     let mut i = 0usize;
     while i < n {
-        let v = get3(work, into + 3 * i).sub(get3(work, from + 3 * i));
-        put3(work, into + 3 * i, v);
+        put_difference(work, from, into, i);
         i += 1;
     }
 }

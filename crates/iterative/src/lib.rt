@@ -10,21 +10,22 @@ use ends::start;
 use field::Place;
 use field::Vec3;
 use fields::find_bad_diagonal;
+use fields::ridged_diagonal;
 use network::Shape;
 use rounds::iterate;
 ghost use mathlib.Core.Path.{_≡_};
-ghost use Prim.Native.Nat.{_<_, _*_, _≤_};
+ghost use Prim.Native.Nat.{_+_, _<_, _≤_};
 ghost use lib.ListN.{length};
 ghost use Rattle.field.specs.Count.{lowest};
 ghost use Rattle.field.specs.declared.Place.the-variants.{Nowhere};
 ghost use Rattle.field.specs.Buffer.{load};
-ghost use Rattle.network.specs.Network.{Network, lent};
-ghost use Rattle.system.specs.System.{anchor as anchorOf};
-ghost use Rattle.system.specs.Work.{term};
+ghost use Rattle.network.specs.Network.{links};
+ghost use Rattle.network.specs.inner.Sound.{LinksSound};
+ghost use Rattle.system.specs.Work.{term, termPlace, matrixAt};
+ghost use Rattle.system.specs.inner.Formed.{weightsIn};
 ghost use Rattle.iterative.specs.Method.{badDiagonal};
-ghost use Rattle.operator.specs.Posed.{Posed};
-ghost use Rattle.iterative.specs.Reduced.{diagonalOf};
-ghost use Rattle.iterative.specs.Solver.{Solved, diagonalNumber};
+ghost use Rattle.iterative.specs.Reduced.{diagonalOf, problemBy};
+ghost use Rattle.iterative.specs.inner.Solver.{IterativeSolved, diagonalIn, diagonalNumber};
 
 // Which of the components x, y and z are still iterated.
 pub struct Active {
@@ -43,7 +44,7 @@ pub struct Round {
 // How a round ends: refused with document 01's number and place, with a component that is still iterated, or with none.
 pub enum Step {
     Failed(usize, usize),
-    Going(Round),
+    Running(Round),
     Ended(Round),
 }
 
@@ -54,91 +55,55 @@ pub enum Outcome {
 }
 
 // 9 where the diagonal of camera i with the ridge is not finite, else 10.
-fn diagonal_number(work: &[f64], n: usize, i: usize) -> usize
-    requires { ⌜ (n ≤ 4096) × (i < n) × (5 * n ≤ length (now work)) ⌝ }
-    ensures { λ r. ⌜ r ≡ diagonalNumber (diagonalOf (load term (now (work .entry)) 0 n) i) ⌝ }
+fn diagonal_number(work: &[f64], i: usize) -> usize
+    requires { ⌜ (i < 4096) × (termPlace (i + 1) ≤ length (now work)) ⌝ }
+    ensures { λ r. ⌜ r ≡ diagonalNumber (diagonalIn (now (work .entry)) i) ⌝ }
 {
-    if is_finite(work[5 * i] + 1e-6) { 10 } else { 9 }
+    if is_finite(ridged_diagonal(work, i)) { 10 } else { 9 }
 }
 
 // The solve where every diagonal can precondition.
 fn run(
-    n: usize,
-    m: usize,
-    b: usize,
-    e: usize,
+    s: Shape,
     ends: &[usize],
-    rays: &[f64],
-    weights: &[f64],
-    scales: &[f64],
-    points: &[f64],
     offsets: &[usize],
     listed: &[usize],
     anchor: usize,
     work: &mut [f64],
 ) -> Outcome
-    ghost { Network }
-    requires { λ net. ⌜ lent n m b e (now ends) (now rays) (now weights) (now scales) (now points) (now offsets) (now listed) ≡ net ⌝ }
-    requires { λ net. ⌜ Posed net (now work) ⌝ }
-    requires { λ net. ⌜ anchor ≡ anchorOf net ⌝ }
-    requires { λ net. ⌜ lowest (badDiagonal anchor (diagonalOf (load term (now work) 0 n))) n ≡ Nowhere ⌝ }
-    ensures { λ net o. ⌜ Solved net (now (work .entry)) (now (work .exit)) o ⌝ }
+    requires { ⌜ LinksSound (links s (now ends) (now offsets) (now listed)) ⌝ }
+    requires { ⌜ matrixAt s ≤ length (now work) ⌝ }
+    requires { ⌜ lowest (badDiagonal anchor (diagonalOf (load term (now work) 0 (s .cameras)))) (s .cameras) ≡ Nowhere ⌝ }
+    ensures { λ o. ⌜ IterativeSolved s (problemBy (links s (now (ends .entry)) (now (offsets .entry)) (now (listed .entry)))
+        (weightsIn s (now (work .entry))) (load term (now (work .entry)) 0 (s .cameras)) anchor) (now (work .entry)) (now (work .exit)) o ⌝ }
 {
-    let s = start(work, n, anchor);
-    let sums = s.sums;
-    let first = s.round;
-    let shape = Shape {
-        cameras: n,
-        points: m,
-        bearings: b,
-        directions: e,
-    };
-    let end = iterate(shape, ends, offsets, listed, work, anchor, sums, first);
-    conclude(shape, ends, offsets, listed, work, anchor, sums, end)
+    let opening = start(s, work, anchor);
+    let sums = opening.sums;
+    let first = opening.round;
+    let end = iterate(s, ends, offsets, listed, work, anchor, sums, first);
+    conclude(s, ends, offsets, listed, work, anchor, sums, end)
 }
 
-// The system that stands in the work buffer solved by the written method: positions in their place, where it is accepted.
+// The system that stands in the work buffer solved by the written method: positions in their place, where it is accepted. The Rust's `solve_reduced_pcg`.
 pub fn solve_iterative(
-    n: usize,
-    m: usize,
-    b: usize,
-    e: usize,
+    s: Shape,
     ends: &[usize],
-    rays: &[f64],
-    weights: &[f64],
-    scales: &[f64],
-    points: &[f64],
     offsets: &[usize],
     listed: &[usize],
     anchor: usize,
     work: &mut [f64],
 ) -> Outcome
-    ghost { Network }
-    requires { λ net. ⌜ lent n m b e (now ends) (now rays) (now weights) (now scales) (now points) (now offsets) (now listed) ≡ net ⌝ }
-    requires { λ net. ⌜ Posed net (now work) ⌝ }
-    requires { λ net. ⌜ anchor ≡ anchorOf net ⌝ }
-    ensures { λ net o. ⌜ Solved net (now (work .entry)) (now (work .exit)) o ⌝ }
+    requires { ⌜ LinksSound (links s (now ends) (now offsets) (now listed)) ⌝ }
+    requires { ⌜ matrixAt s ≤ length (now work) ⌝ }
+    ensures { λ o. ⌜ IterativeSolved s (problemBy (links s (now (ends .entry)) (now (offsets .entry)) (now (listed .entry)))
+        (weightsIn s (now (work .entry))) (load term (now (work .entry)) 0 (s .cameras)) anchor) (now (work .entry)) (now (work .exit)) o ⌝ }
 {
-    let bad = find_bad_diagonal(work, n, anchor);
+    let bad = find_bad_diagonal(s, work, anchor);
     match bad {
         Place::At(i) => Outcome::Failed {
-            number: diagonal_number(work, n, i),
+            number: diagonal_number(work, i),
             place: i,
         },
-        Place::Nowhere => run(
-            n,
-            m,
-            b,
-            e,
-            ends,
-            rays,
-            weights,
-            scales,
-            points,
-            offsets,
-            listed,
-            anchor,
-            work,
-        ),
+        Place::Nowhere => run(s, ends, offsets, listed, anchor, work),
     }
 }

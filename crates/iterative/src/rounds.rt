@@ -1,46 +1,51 @@
-// The rounds. All but the operator works on the system as it stands in the buffer.
+// The rounds of `solve_reduced_pcg`. All but the operator works on the system as it stands in the buffer.
 use crate::Round;
 use crate::Step;
 use crate::components::any;
 use crate::components::bound;
-use crate::components::broken;
-use crate::components::flat;
+use crate::components::find_bad_curvature;
+use crate::components::find_bad_product;
 use crate::components::quotient;
-use crate::components::remaining;
-use crate::fields::advance;
+use crate::components::stay_active;
 use crate::fields::field_dot;
 use crate::fields::precondition;
-use crate::fields::renew;
+use crate::fields::step_field;
+use crate::fields::update_search;
 use field::Place;
 use field::Vec3;
 use network::Shape;
 use operator::held::apply;
 use system::work::applied_at;
+use system::work::positions_at;
+use system::work::preconditioned_at;
+use system::work::residual_at;
 use system::work::search_at;
 ghost use mathlib.Core.Path.{_≡_};
 ghost use Prim.Native.Nat.{_≤_, _<_};
 ghost use lib.ListN.{length};
+ghost use Rattle.network.specs.Network.{links};
+ghost use Rattle.network.specs.inner.Sound.{LinksSound};
 ghost use Rattle.system.specs.Work.{matrixAt};
-ghost use Rattle.operator.specs.Operator.{links};
-ghost use Rattle.operator.specs.Posed.{Linked};
 ghost use Rattle.iterative.specs.Problem.{mostRounds};
-ghost use Rattle.iterative.specs.Method.{going};
-ghost use Rattle.iterative.specs.Solver.{Roomy, Bounded, Summed, begun, stateOf, Turned, Moved, Went, Stepped, Rounded, Iterated, standing};
+ghost use Rattle.iterative.specs.Method.{boundOf, running};
+ghost use Rattle.iterative.specs.inner.Solver.{FieldsFit, Iterated, Moved, Ran, Rounded, begun, continuedBy, problemIn, redirectedBy, rightSums, stateIn, steppedBy};
 
 // The new search vector (12).
-fn turn(work: &mut [f64], n: usize, anchor: usize, r: Round) -> Step
-    requires { ⌜ Roomy n (length (now work)) ⌝ }
-    ensures { λ s. ⌜ Turned n anchor r (now (work .entry)) (now (work .exit)) s ⌝ }
+fn redirect(s: Shape, work: &mut [f64], anchor: usize, r: Round) -> Step
+    requires { ⌜ FieldsFit s (length (now work)) ⌝ }
+    ensures { λ t. ⌜ Ran s (redirectedBy s anchor (now (work .entry)) r) (now (work .entry)) (now (work .exit)) t ⌝ }
 {
     let active = r.active;
     let old = r.old;
-    let new = precondition(work, n, anchor, 11 * n, 14 * n);
-    let place = broken(active, old, new);
+    let at = preconditioned_at(s);
+    let new = precondition(s, work, anchor, residual_at(s), at);
+    let place = find_bad_product(active, old, new);
     match place {
         Place::At(i) => Step::Failed(12, i),
         Place::Nowhere => {
-            renew(work, n, active, quotient(new, old), 14 * n, 17 * n);
-            Step::Going(Round {
+            let beta = quotient(new, old);
+            update_search(s, work, active, beta, at, search_at(s));
+            Step::Running(Round {
                 old: new,
                 active: active,
                 count: r.count,
@@ -50,12 +55,12 @@ fn turn(work: &mut [f64], n: usize, anchor: usize, r: Round) -> Step
 }
 
 // On with a new search vector, where a component is still active.
-fn onward(work: &mut [f64], n: usize, anchor: usize, r: Round) -> Step
-    requires { ⌜ Roomy n (length (now work)) ⌝ }
-    ensures { λ s. ⌜ Went n anchor r (now (work .entry)) (now (work .exit)) s ⌝ }
+fn go_on(s: Shape, work: &mut [f64], anchor: usize, r: Round) -> Step
+    requires { ⌜ FieldsFit s (length (now work)) ⌝ }
+    ensures { λ t. ⌜ Ran s (continuedBy s anchor (now (work .entry)) r) (now (work .entry)) (now (work .exit)) t ⌝ }
 {
     if any(r.active) {
-        turn(work, n, anchor, r)
+        redirect(s, work, anchor, r)
     } else {
         Step::Ended(r)
     }
@@ -63,44 +68,45 @@ fn onward(work: &mut [f64], n: usize, anchor: usize, r: Round) -> Step
 
 // Positions and residual after the step along the search vector.
 fn move_along(
+    s: Shape,
     work: &mut [f64],
-    n: usize,
     anchor: usize,
     bound: Vec3,
     r: Round,
     curvature: Vec3,
 ) -> Round
-    requires { ⌜ Roomy n (length (now work)) ⌝ }
-    requires { ⌜ Bounded n anchor (now work) bound ⌝ }
+    requires { ⌜ FieldsFit s (length (now work)) ⌝ }
+    requires { ⌜ bound ≡ boundOf (rightSums s anchor (now work)) ⌝ }
     requires { ⌜ r .count < 4000 ⌝ }
-    ensures { λ t. ⌜ Moved n anchor r curvature (now (work .entry)) (now (work .exit)) t ⌝ }
+    ensures { λ t. ⌜ Moved s anchor r curvature (now (work .entry)) (now (work .exit)) t ⌝ }
 {
+    let count = r.count + 1;
     let active = r.active;
     let old = r.old;
     let alpha = quotient(old, curvature);
-    advance(work, n, anchor, true, active, alpha, 5 * n, 17 * n);
-    let sums = advance(work, n, anchor, false, active, alpha, 11 * n, 20 * n);
+    step_field(s, work, anchor, true, active, alpha, positions_at(s), search_at(s));
+    let sums = step_field(s, work, anchor, false, active, alpha, residual_at(s), applied_at(s));
     Round {
         old: old,
-        active: remaining(bound, active, sums),
-        count: r.count + 1,
+        active: stay_active(bound, active, sums),
+        count: count,
     }
 }
 
 // The round, once the system has been applied to the search vector (11).
-fn step(work: &mut [f64], n: usize, anchor: usize, bound: Vec3, r: Round) -> Step
-    requires { ⌜ Roomy n (length (now work)) ⌝ }
-    requires { ⌜ Bounded n anchor (now work) bound ⌝ }
+fn step(s: Shape, work: &mut [f64], anchor: usize, bound: Vec3, r: Round) -> Step
+    requires { ⌜ FieldsFit s (length (now work)) ⌝ }
+    requires { ⌜ bound ≡ boundOf (rightSums s anchor (now work)) ⌝ }
     requires { ⌜ r .count < 4000 ⌝ }
-    ensures { λ s. ⌜ Stepped n anchor r (now (work .entry)) (now (work .exit)) s ⌝ }
+    ensures { λ t. ⌜ Ran s (steppedBy s anchor (now (work .entry)) r) (now (work .entry)) (now (work .exit)) t ⌝ }
 {
-    let curvature = field_dot(work, n, anchor, 17 * n, 20 * n);
-    let place = flat(r.active, r.old, curvature);
+    let curvature = field_dot(work, s.cameras, anchor, search_at(s), applied_at(s));
+    let place = find_bad_curvature(r.active, r.old, curvature);
     match place {
         Place::At(i) => Step::Failed(11, i),
         Place::Nowhere => {
-            let t = move_along(work, n, anchor, bound, r, curvature);
-            onward(work, n, anchor, t)
+            let t = move_along(s, work, anchor, bound, r, curvature);
+            go_on(s, work, anchor, t)
         }
     }
 }
@@ -115,13 +121,13 @@ pub(crate) fn round(
     bound: Vec3,
     r: Round,
 ) -> Step
-    requires { ⌜ Linked (links s (now ends) (now offsets) (now listed)) ⌝ }
+    requires { ⌜ LinksSound (links s (now ends) (now offsets) (now listed)) ⌝ }
     requires { ⌜ matrixAt s ≤ length (now work) ⌝ }
-    requires { ⌜ Bounded (s .cameras) anchor (now work) bound ⌝ }
+    requires { ⌜ bound ≡ boundOf (rightSums s anchor (now work)) ⌝ }
     requires { ⌜ r .count < 4000 ⌝ }
-    ensures { λ x. ⌜ Rounded (standing (links s (now (ends .entry)) (now (offsets .entry)) (now (listed .entry))) anchor (now (work .entry))) r (now (work .entry)) (now (work .exit)) x ⌝ }
+    ensures { λ x. ⌜ Rounded s (problemIn (links s (now (ends .entry)) (now (offsets .entry)) (now (listed .entry))) anchor (now (work .entry)))
+        r (now (work .entry)) (now (work .exit)) x ⌝ }
 {
-    let n = s.cameras;
     apply(
         work,
         s,
@@ -129,10 +135,10 @@ pub(crate) fn round(
         offsets,
         listed,
         anchor,
-        search_at(n),
-        applied_at(n),
+        search_at(s),
+        applied_at(s),
     );
-    step(work, n, anchor, bound, r)
+    step(s, work, anchor, bound, r)
 }
 
 // 8(n - 1), clamped to 64 .. 4000.
@@ -158,31 +164,25 @@ fn rounds(
     bound: Vec3,
     first: Round,
 ) -> Step
-    requires { ⌜ Linked (links s (now ends) (now offsets) (now listed)) ⌝ }
+    requires { ⌜ LinksSound (links s (now ends) (now offsets) (now listed)) ⌝ }
     requires { ⌜ matrixAt s ≤ length (now work) ⌝ }
-    requires { ⌜ Bounded (s .cameras) anchor (now work) bound ⌝ }
+    requires { ⌜ bound ≡ boundOf (rightSums s anchor (now work)) ⌝ }
     requires { ⌜ first .count ≡ 0 ⌝ }
-    ensures { λ x. ⌜ Iterated (standing (links s (now (ends .entry)) (now (offsets .entry)) (now (listed .entry))) anchor (now (work .entry))) (going (stateOf (s .cameras) (now (work .entry)) first)) (now (work .entry)) (now (work .exit)) x ⌝ }
+    ensures { λ x. ⌜ Iterated s (problemIn (links s (now (ends .entry)) (now (offsets .entry)) (now (listed .entry))) anchor (now (work .entry)))
+        (running (stateIn s (now (work .entry)) first)) (now (work .entry)) (now (work .exit)) x ⌝ }
 {
     let most = most_rounds(s.cameras);
     let mut r = first;
     let mut k = 0usize;
     while k < most {
         let x = round(s, ends, offsets, listed, work, anchor, bound, r);
-        match x {
-            Step::Failed(number, place) => {
-                return Step::Failed(number, place);
-            }
-            Step::Ended(t) => {
-                return Step::Ended(t);
-            }
-            Step::Going(t) => {
-                r = t;
-            }
-        }
+        let Step::Running(t) = x else {
+            return x;
+        };
+        r = t;
         k += 1;
     }
-    Step::Going(r)
+    Step::Running(r)
 }
 
 // The rounds, where the first one has an active component.
@@ -196,11 +196,12 @@ pub(crate) fn iterate(
     sums: Vec3,
     first: Round,
 ) -> Step
-    requires { ⌜ Linked (links s (now ends) (now offsets) (now listed)) ⌝ }
+    requires { ⌜ LinksSound (links s (now ends) (now offsets) (now listed)) ⌝ }
     requires { ⌜ matrixAt s ≤ length (now work) ⌝ }
-    requires { ⌜ Summed (s .cameras) anchor (now work) sums ⌝ }
+    requires { ⌜ sums ≡ rightSums s anchor (now work) ⌝ }
     requires { ⌜ first .count ≡ 0 ⌝ }
-    ensures { λ x. ⌜ Iterated (standing (links s (now (ends .entry)) (now (offsets .entry)) (now (listed .entry))) anchor (now (work .entry))) (begun (stateOf (s .cameras) (now (work .entry)) first)) (now (work .entry)) (now (work .exit)) x ⌝ }
+    ensures { λ x. ⌜ Iterated s (problemIn (links s (now (ends .entry)) (now (offsets .entry)) (now (listed .entry))) anchor (now (work .entry)))
+        (begun (stateIn s (now (work .entry)) first)) (now (work .entry)) (now (work .exit)) x ⌝ }
 {
     if any(first.active) {
         rounds(s, ends, offsets, listed, work, anchor, bound(sums), first)

@@ -13,6 +13,19 @@ five = ofBits binary64 0x4014000000000000
 abbrev pub minusTiny : Float
 minusTiny = ofBits binary64 0xbd719799812dea11
 
+-- 0.5 and 2; 1e300 and 1e10
+abbrev pub half : Float
+half = ofBits binary64 0x3fe0000000000000
+
+abbrev pub two : Float
+two = ofBits binary64 0x4000000000000000
+
+abbrev pub huge : Float
+huge = ofBits binary64 0x7e37e43c8800759c
+
+abbrev pub large : Float
+large = ofBits binary64 0x4202a05f20000000
+
 -- n=1, m=1, B=1, E=0: camera 0 sees point 0 along (0,0,1), old point (5,5,5), with this weight and scale
 unfoldable pub single : Float → Float → Network
 single w s = network (shape 1 1 1 0) (0 ∷ 0 ∷ []) (null ∷ null ∷ one ∷ []) (w ∷ []) (s ∷ []) (five ∷ five ∷ five ∷ []) (0 ∷ 1 ∷ []) (0 ∷ [])
@@ -20,3 +33,11 @@ single w s = network (shape 1 1 1 0) (0 ∷ 0 ∷ []) (null ∷ null ∷ one ∷
 -- 'Weight 1e-12, scale 1'
 abbrev pub faint : Network
 faint = single tiny one
+
+-- n=2, one direction (1,0,0) from camera 0 to camera 1, with this weight and scale
+unfoldable pub directed : Float → Float → Network
+directed w s = network (shape 2 0 0 1) (0 ∷ 1 ∷ []) (one ∷ null ∷ null ∷ []) (w ∷ []) (s ∷ []) [] (0 ∷ []) []
+
+-- 'n=2, one direction, weight 1e300, scale 1e10'
+abbrev pub pair : Network
+pair = directed huge large

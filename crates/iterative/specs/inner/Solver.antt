@@ -2,22 +2,25 @@
 use mathlib.Core.Path.{_≡_}
 use mathlib.Core.List.{List}
 use mathlib.Core.Bool.{Bool, cond, false, true}
-use Prim.Native.Nat.{ℕ, _≤_}
+use Prim.Native.Nat.{ℕ, _+_, _*_, _≤_}
+use lib.Dec.{eqb}
 use lib.ListN.{drop, length}
 use lib.Ieee.{Float, add, binary64, sub}
 use lib.Ieee.Scale.{finite}
-use Rattle.field.specs.Buffer.{load, vector}
+use Rattle.field.specs.Buffer.{get, load, put as putAt, store, vector}
 use Rattle.field.specs.Count.{upto}
+use Rattle.field.specs.Vec.{origin, over}
 use Rattle.field.specs.declared.Place.{Place}
 use Rattle.field.specs.declared.Vec3.{Vec3}
 use Rattle.network.specs.Network.{Links}
 use Rattle.network.specs.inner.Sound.{ShapeSound}
 use Rattle.network.specs.declared.Shape.{Shape}
-use Rattle.system.specs.Work.{appliedAt, positionsAt, residualAt, rightAt, searchAt, term, weightsAt}
+use Rattle.system.specs.Work.{appliedAt, positionsAt, residualAt, rightAt, searchAt, term, termPlace, weightsAt}
+use Rattle.system.specs.System.{ridge}
 use Rattle.system.specs.inner.Formed.{weightsIn}
 use Rattle.operator.specs.Operator.{reducedBy}
-use Rattle.iterative.specs.Method.{Ending, Run, State, accepted, allowed, any, badResidual, boundOf, closed, component, continued, ended, failed, flag, moved, next, preconditioned, redirect, refused, residualOf, round, running, solution, startsActive, step, zeros}
-use Rattle.iterative.specs.Problem.{Problem, fieldDot, mostRounds}
+use Rattle.iterative.specs.Method.{Ending, Run, State, accepted, allowed, any, badResidual, boundOf, closed, component, continued, ended, failed, flag, moved, next, preconditioned, redirect, refused, residualOf, round, running, solution, startsActive, step, stepped, steppedField, zeros}
+use Rattle.iterative.specs.Problem.{Problem, dotStep, fieldDot, mostRounds}
 use Rattle.iterative.specs.Reduced.{diagonalOf, problemBy, rightOf}
 use Rattle.iterative.specs.declared.Active.{Active}
 use Rattle.iterative.specs.declared.Outcome.{Outcome}
@@ -44,7 +47,17 @@ pub record FieldsFit (s : Shape) (size : ℕ) : Type 0 where
   pub shape : ShapeSound s
   pub room : weightsAt s ≤ size
 
+-- a field of n vectors behind the camera terms
+pub record FieldAt (s : Shape) (into size : ℕ) : Type 0 where
+  pub shape : ShapeSound s
+  pub behind : positionsAt s ≤ into
+  pub room : into + 3 * s .cameras ≤ size
+
 -- ---- what stands in a buffer
+
+-- camera i's diagonal with the ridge
+abbrev pub diagonalIn : List Float → ℕ → Float
+diagonalIn l i = add binary64 (get term l (termPlace i) .diagonal) ridge
 
 -- the square sums of the right side, and their bounds
 abbrev pub rightSums : Shape → ℕ → List Float → Vec3
@@ -94,6 +107,31 @@ pub record Outside (s : Shape) (l l' : List Float) : Type 0 where
 pub record SystemKept (s : Shape) (l l' : List Float) : Type 0 where
   pub outside : Outside s l l'
   pub right : load vector l' (rightAt s) (s .cameras) ≡ load vector l (rightAt s) (s .cameras)
+
+-- ---- one turn of such a pass, at camera i
+
+pub record TurnPreconditioned (n a from into i : ℕ) (t : Vec3) (l l' : List Float) (r : Vec3) : Type 0 where
+  pub put : l' ≡ putAt vector l (into + 3 * i) (cond (eqb i a) origin (over (get vector l (from + 3 * i)) (diagonalIn l i)))
+  pub dot : r ≡ dotStep a (load vector l' from n) (load vector l' into n) i t
+
+pub record TurnStepped (n a : ℕ) (op : Float → Float → Float) (active : Active) (alpha : Vec3) (into along i : ℕ) (t : Vec3) (l l' : List Float) (r : Vec3) : Type 0 where
+  pub put : l' ≡ putAt vector l (into + 3 * i) (cond (eqb i a) (get vector l (into + 3 * i)) (stepped op active alpha (get vector l (into + 3 * i)) (get vector l (along + 3 * i))))
+  pub dot : r ≡ dotStep a (load vector l' into n) (load vector l' into n) i t
+
+-- ---- passes that fill a field and sum a dot: l is the buffer before, l' after, r the dot
+
+-- the field at `from` preconditioned, at `into`; its dot with what it was made of
+pub record Preconditioned (s : Shape) (a from into : ℕ) (l l' : List Float) (r : Vec3) : Type 0 where
+  pub field : l' ≡ store vector l into (preconditioned (s .cameras) a (diagonalOf (load term l 0 (s .cameras))) (load vector l from (s .cameras)))
+  pub dot : r ≡ fieldDot (s .cameras) a (load vector l from (s .cameras)) (preconditioned (s .cameras) a (diagonalOf (load term l 0 (s .cameras))) (load vector l from (s .cameras)))
+
+-- the field at `into` stepped along the one at `along`; its dot with itself
+abbrev pub steppedIn : Shape → ℕ → (Float → Float → Float) → Active → Vec3 → ℕ → ℕ → List Float → List Vec3
+steppedIn s a op active alpha into along l = steppedField (s .cameras) a op active alpha (load vector l into (s .cameras)) (load vector l along (s .cameras))
+
+pub record FieldStepped (s : Shape) (a : ℕ) (op : Float → Float → Float) (active : Active) (alpha : Vec3) (into along : ℕ) (l l' : List Float) (r : Vec3) : Type 0 where
+  pub field : l' ≡ store vector l into (steppedIn s a op active alpha into along l)
+  pub dot : r ≡ fieldDot (s .cameras) a (steppedIn s a op active alpha into along l) (steppedIn s a op active alpha into along l)
 
 -- ---- what a round does to the buffer l, of which it makes l': the method's, whatever the operator is
 
@@ -152,6 +190,12 @@ firstRound s a l sums = record {
   active = startsActive (boundOf sums) sums;
   count = 0;
 }
+
+-- the start is made: the square sums of the right side, and the first round's record
+pub record Started (s : Shape) (a : ℕ) (l l' : List Float) (v : Vec3) (r : Round) : Type 0 where
+  pub opened : Opened s a l l'
+  pub sums : v ≡ rightSums s a l'
+  pub round : r ≡ firstRound s a l' v
 
 abbrev pub diagonalNumber : Float → ℕ
 diagonalNumber d = cond (finite d) 10 9

@@ -1,53 +1,26 @@
-use Rattle.iterative.proofs.Runs.{opened-done}
+use Rattle.iterative.proofs.Solving.{opened-done}
 use borrow.Author.Needs.{needs}
 use Rattle.iterative.proofs.ends.open.Statement.{statement}
 use Rattle.iterative.proofs.ends.open.Tie as tie
-
-mul-set-right : tie.Need-mul-set-right
-mul-set-right c = search needs
-
-set-right-requires : tie.Need-set-right-requires
-set-right-requires c κs = search needs
-
-mul-set-zero : tie.Need-mul-set-zero
-mul-set-zero c = search needs
-
-set-zero-requires : tie.Need-set-zero-requires
-set-zero-requires c κs = search needs
-
-mul-set-right-2 : tie.Need-mul-set-right-2
-mul-set-right-2 c = search needs
-
-set-right-requires-2 : tie.Need-set-right-requires-2
-set-right-requires-2 c κs = search needs
-
-mul-precondition : tie.Need-mul-precondition
-mul-precondition c = search needs
-
-mul-precondition-2 : tie.Need-mul-precondition-2
-mul-precondition-2 c = search needs
-
-precondition-requires : tie.Need-precondition-requires
-precondition-requires c κs = search needs
-
-same-length : tie.Need-same-length
-same-length c = search needs
-
-returns : tie.Need-returns
-returns c = opened-done _ _ _ _ _ _ _ (c .before .before .before .before .before .before .before .before .before .before .before .before .before .before .before .before .before .pre) (c .before .before .before .before .before .before .before .before .before .before .before .before .before .before .set-right .ensures) (c .before .before .before .before .before .before .before .before .before .before .set-zero .ensures) (c .before .before .before .before .before .before .set-right2 .ensures) (c .before .before .precondition .ensures .0)
 
 pub open-spec : {M : Type 1} → statement M
 open-spec =
     tie.close
     (tie.spec
-    mul-set-right
-    set-right-requires
-    mul-set-zero
-    set-zero-requires
-    mul-set-right-2
-    set-right-requires-2
-    mul-precondition
-    mul-precondition-2
-    precondition-requires
-    same-length
-    returns)
+    (λ c κs. search needs)
+    (λ c κs. search needs)
+    (λ c κs. search needs)
+    (λ c κs. search needs)
+    (λ c κs. search needs)
+    (λ c κs. search needs)
+    (λ c κs. search needs)
+    (λ c κs. search needs)
+    (λ c κs. search needs)
+    (λ c. search needs)
+    (λ c.
+        let k = c .before .before in
+        let h = k .before .before .before .before .before .before in
+        let g = h .before .before .before .before .before in
+        let f = g .before .before .before .before .before in
+        opened-done _ _ _ _ _ _ _ _ _ _ _ _ _ (search needs) (f .before .right-at .ensures) (g .before .positions-at .ensures) (h .before .residual-at .ensures)
+            (k .before .before .residual-at2 .ensures) (k .before .search-at .ensures) (f .set-right .ensures) (g .set-zero .ensures) (h .set-right2 .ensures) (k .precondition .ensures)))

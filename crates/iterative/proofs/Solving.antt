@@ -1,0 +1,227 @@
+-- The start, the end, and the whole solve, from what the calls ensure. Assumes nothing.
+use mathlib.Core.Path.{ap, refl, subst, sym, _∙_, _≡_}
+use mathlib.Core.Logic.{inl, inr}
+use mathlib.Core.List.{List}
+use Prim.Native.Nat.{ℕ, _≤_}
+use native.Mathlib.Omega.{arith}
+use lib.ListN.{length}
+use lib.Ieee.{Float}
+use Rattle.field.proofs.Counting.{found, length-field}
+use Rattle.field.specs.Buffer.{load, store, vector}
+use Rattle.field.specs.Count.{lowest}
+use Rattle.field.specs.declared.Place.{Place}
+use Rattle.field.specs.declared.Place.the-variants.{At, Nowhere}
+use Rattle.field.specs.declared.Vec3.{Vec3}
+use Rattle.network.specs.Network.{Links, Network, links, linksOf}
+use Rattle.network.specs.inner.Sound.{LinksSound}
+use Rattle.network.specs.declared.Shape.{Shape}
+use Rattle.system.specs.System.{Weights, anchor, terms, weightsOf}
+use Rattle.system.specs.Work.{appliedAt, matrixAt, positionsAt, residualAt, rightAt, searchAt, term, termPlace}
+use Rattle.system.specs.declared.CameraTerm.{CameraTerm}
+use Rattle.system.specs.inner.Formed.{Segments, weightsIn}
+use Rattle.operator.proofs.Buffered.{reduced-held, weights-kept}
+use Rattle.operator.proofs.OperatorLaws.{by-length}
+use Rattle.operator.specs.Operator.{reducedBy}
+use Rattle.operator.specs.inner.Applied.{reducedIn}
+use Rattle.iterative.proofs.Entries.{diagonal-here}
+use Rattle.iterative.proofs.Kept.{kept-same, kept-store, kept-then, other-field, outside-same, outside-store, outside-then, own-field, placed-same, problem-in-kept}
+use Rattle.iterative.proofs.Running.{rounds-over}
+use Rattle.iterative.specs.Method.{Ending, Run, State, accepted, acceptedUnless, allowed, allowedOf, badDiagonal, badResidual, boundOf, closed, component, difference, ended, failed, next, opened, preconditioned, refused, residualOf, rounds, running, solution, squareSum, start, startsActive, tested, zeros}
+use Rattle.iterative.specs.Problem.{Problem, fieldDot, mostRounds}
+use Rattle.iterative.specs.Reduced.{diagonalOf, problem, problemBy, rightOf}
+use Rattle.iterative.specs.declared.Active.{Active}
+use Rattle.iterative.specs.declared.Outcome.{Outcome}
+use Rattle.iterative.specs.declared.Outcome.the-variants.{Failed as NotPlaced, Placed}
+use Rattle.iterative.specs.declared.Round.{Round}
+use Rattle.iterative.specs.declared.Step.{Step}
+use Rattle.iterative.specs.declared.Step.the-variants.{Ended, Failed, Running}
+use Rattle.iterative.specs.inner.Solver.{Concluded, FieldsFit, Iterated, IterativeSolved, Opened, PositionsKept, Preconditioned, Settled, Started, SystemKept, Tested, answerOf, begun, diagonalIn, diagonalNumber, firstRound, positionsIn, problemIn, rightSums, roundsFrom, runIn, stateIn}
+
+-- ---- the start
+
+pub opened-done : (s : Shape) (a : ℕ) (l l1 l2 l3 l4 : List Float) (p1 p2 p3 p4 p5 : ℕ) (v : Vec3) → FieldsFit s (length l) →
+    p1 ≡ rightAt s → p2 ≡ positionsAt s → p3 ≡ residualAt s → p4 ≡ residualAt s → p5 ≡ searchAt s →
+    l1 ≡ store vector l p1 (rightOf (s .cameras) a (load term l 0 (s .cameras))) →
+    l2 ≡ store vector l1 p2 (zeros (s .cameras)) →
+    l3 ≡ store vector l2 p3 (rightOf (s .cameras) a (load term l2 0 (s .cameras))) →
+    Preconditioned s a p4 p5 l3 l4 v → Opened s a l l4
+opened-done s a l l1 l2 l3 l4 p1 p2 p3 p4 p5 v R q1 q2 q3 q4 q5 f1 f2 f3 D =
+    let n = s .cameras in
+    let e1 : l1 ≡ store vector l (rightAt s) (rightOf n a (load term l 0 n)) = rw q1 at f1 in
+    let e2 : l2 ≡ store vector l1 (positionsAt s) (zeros n) = rw q2 at f2 in
+    let e3 : l3 ≡ store vector l2 (residualAt s) (rightOf n a (load term l2 0 n)) = rw q3 at f3 in
+    let e4 : l4 ≡ store vector l3 (searchAt s) (preconditioned n a (diagonalOf (load term l3 0 n)) (load vector l3 (residualAt s) n)) = rw (q4, q5) at (D .field) in
+    let s1 : length (rightOf n a (load term l 0 n)) ≡ n = length-field n _ in
+    let s2 : length (zeros n) ≡ n = length-field n _ in
+    let s3 : length (rightOf n a (load term l2 0 n)) ≡ n = length-field n _ in
+    let s4 : length (preconditioned n a (diagonalOf (load term l3 0 n)) (load vector l3 (residualAt s) n)) ≡ n = length-field n _ in
+    let o1 = outside-store s l (rightAt s) _ l1 e1 s1 (omega arith) (omega arith) in
+    let o2 = outside-then o1 (outside-store s l1 (positionsAt s) _ l2 e2 s2 (omega arith) (omega arith)) in
+    let o3 = outside-then o2 (outside-store s l2 (residualAt s) _ l3 e3 s3 (omega arith) (omega arith)) in
+    let o4 = outside-then o3 (outside-store s l3 (searchAt s) _ l4 e4 s4 (omega arith) (omega arith)) in
+    let right : load vector l1 (rightAt s) n ≡ rightOf n a (load term l 0 n) = own-field n l (rightAt s) _ l1 e1 s1 (omega (arith, R .room)) in
+    let positions : load vector l2 (positionsAt s) n ≡ zeros n = own-field n l1 (positionsAt s) _ l2 e2 s2 (omega (arith, R .room, o1 .size)) in
+    let residual : load vector l3 (residualAt s) n ≡ rightOf n a (load term l2 0 n) = own-field n l2 (residualAt s) _ l3 e3 s3 (omega (arith, R .room, o2 .size)) in
+    let search : load vector l4 (searchAt s) n ≡ preconditioned n a (diagonalOf (load term l3 0 n)) (load vector l3 (residualAt s) n) = own-field n l3 (searchAt s) _ l4 e4 s4 (omega (arith, R .room, o3 .size)) in
+    record {
+      outside = o4;
+      right =
+          other-field n l3 _ _ l4 (rightAt s) e4 s4 (inr (omega arith))
+          ∙ other-field n l2 _ _ l3 (rightAt s) e3 s3 (inr (omega arith))
+          ∙ other-field n l1 _ _ l2 (rightAt s) e2 s2 (inl (omega arith))
+          ∙ right;
+      positions =
+          other-field n l3 _ _ l4 (positionsAt s) e4 s4 (inr (omega arith)) ∙ other-field n l2 _ _ l3 (positionsAt s) e3 s3 (inr (omega arith)) ∙ positions;
+      residual = other-field n l3 _ _ l4 (residualAt s) e4 s4 (inr (omega arith)) ∙ residual ∙ rw (o2 .terms);
+      search = search ∙ rw (residual, o3 .terms, o2 .terms);
+    }
+
+pub first-round-is : (s : Shape) (a : ℕ) (l : List Float) (p q : ℕ) (sums bound old : Vec3) (active : Active) → p ≡ residualAt s → q ≡ searchAt s →
+    old ≡ fieldDot (s .cameras) a (load vector l p (s .cameras)) (load vector l q (s .cameras)) → bound ≡ boundOf sums → active ≡ startsActive bound sums →
+    record { old = old; active = active; count = 0 } ≡ firstRound s a l sums
+first-round-is s a l p q sums bound old active ep eq eo eb ea = rw (ea, eb, eo, ep, eq)
+
+pub started : (s : Shape) (a : ℕ) (l l1 : List Float) (p : ℕ) (sums : Vec3) (r : Round) → Opened s a l l1 → p ≡ rightAt s → sums ≡ fieldDot (s .cameras) a (load vector l1 p (s .cameras)) (load vector l1 p (s .cameras)) → r ≡ firstRound s a l1 sums → Started s a l l1 sums r
+started s a l l1 p sums r O ep es er = record { opened = O; sums = rw ep at es; round = er }
+
+-- ---- the end
+
+pub settled : (s : Shape) (ends offsets listed : List ℕ) (a p q r : ℕ) (l l1 l2 : List Float) (v : Vec3) → matrixAt s ≤ length l →
+    p ≡ positionsAt s → q ≡ appliedAt s → r ≡ rightAt s →
+    l1 ≡ reducedIn (links s ends offsets listed) a p q l →
+    l2 ≡ store vector l1 q (difference (s .cameras) (load vector l1 q (s .cameras)) (load vector l1 r (s .cameras))) →
+    v ≡ fieldDot (s .cameras) a (load vector l2 q (s .cameras)) (load vector l2 q (s .cameras)) →
+    Settled s (problemIn (links s ends offsets listed) a l) l l2 v
+unfolding residualOf
+settled s ends offsets listed a p q r l l1 l2 v room ep eq er f1 f2 f3 =
+    let n = s .cameras in
+    let L = links s ends offsets listed in
+    let w = reducedBy L (weightsIn s l) a (load vector l (positionsAt s) n) in
+    let e1 : l1 ≡ store vector l (appliedAt s) w = rw (ep, eq) at f1 in
+    let e2 : l2 ≡ store vector l1 (appliedAt s) (difference n (load vector l1 (appliedAt s) n) (load vector l1 (rightAt s) n)) = rw (eq, er) at f2 in
+    let e : v ≡ fieldDot n a (load vector l2 (appliedAt s) n) (load vector l2 (appliedAt s) n) = rw eq at f3 in
+    let s1 : length w ≡ n = by-length L _ a _ in
+    let s2 : length (difference n (load vector l1 (appliedAt s) n) (load vector l1 (rightAt s) n)) ≡ n = length-field n _ in
+    let to = kept-store s l _ _ l1 e1 s1 (omega arith) (omega arith) (inr (omega arith)) in
+    let f : load vector l1 (appliedAt s) n ≡ w = own-field n l _ w l1 e1 s1 (omega arith) in
+    let g : load vector l2 (appliedAt s) n ≡ difference n (load vector l1 (appliedAt s) n) (load vector l1 (rightAt s) n) = own-field n l1 _ _ l2 e2 s2 (omega (arith, to .outside .size)) in
+    let k = kept-store s l1 _ _ l2 e2 s2 (omega arith) (omega arith) (inr (omega arith)) in
+    record {
+      residual = e ∙ rw (g, f, to .right);
+      kept = record {
+        kept = kept-then to k;
+        positions = other-field n l1 _ _ l2 (positionsAt s) e2 s2 (inr (omega arith)) ∙ other-field n l _ _ l1 (positionsAt s) e1 s1 (inr (omega arith));
+      };
+    }
+
+-- the final test: the square sums are the method's
+pub tested-done : (s : Shape) (ends offsets listed : List ℕ) (a : ℕ) (l l' : List Float) (sums bound v : Vec3) (r : Place) → let P = problemIn (links s ends offsets listed) a l in
+    sums ≡ rightSums s a l → bound ≡ allowedOf sums → Settled s P l l' v → r ≡ component (badResidual bound v) → Tested s P l l' r
+unfolding squareSum
+tested-done s ends offsets listed a l l' sums bound v r e f S g = record { place = g ∙ rw (f, e, S .residual); kept = S .kept }
+
+module _ (s : Shape) (P : Problem) (l l' : List Float) (p : Place) (r : Round) (T : Tested s P l l' p) where
+  pub judged-failed : (i : ℕ) → p ≡ At i → Concluded s P (ended (stateIn s l r)) l l' (NotPlaced 13 i)
+  judged-failed i e = let q : component (badResidual (allowed P) (residualOf P (positionsIn s l))) ≡ At i = sym (T .place) ∙ e in record { answer = rw q; kept = T .kept }
+
+  pub judged-placed : p ≡ Nowhere → Concluded s P (ended (stateIn s l r)) l l' (Placed (r .count))
+  judged-placed e = let q : component (badResidual (allowed P) (residualOf P (positionsIn s l))) ≡ Nowhere = sym (T .place) ∙ e in record { answer = rw q; kept = T .kept }
+
+-- the ways in which the rounds leave a run
+module _ (s : Shape) (P : Problem) (l : List Float) (x : Step) where
+  pub concluded-failed : (k i : ℕ) → x ≡ Failed k i → Concluded s P (runIn s l x) l l (NotPlaced k i)
+  concluded-failed k i e = rw e (record { answer = refl; kept = placed-same s l })
+
+  pub concluded-running : (r : Round) (l' : List Float) (o : Outcome) → x ≡ Running r → Concluded s P (ended (stateIn s l r)) l l' o → Concluded s P (runIn s l x) l l' o
+  concluded-running r l' o e C = rw e (record { answer = C .answer; kept = C .kept })
+
+  pub concluded-ended : (r : Round) (l' : List Float) (o : Outcome) → x ≡ Ended r → Concluded s P (ended (stateIn s l r)) l l' o → Concluded s P (runIn s l x) l l' o
+  concluded-ended r l' o e C = rw e C
+
+-- ---- the whole solve
+
+accepted-positions : (p : Place) (t s : State) → acceptedUnless p t ≡ accepted s → t .positions ≡ s .positions
+accepted-positions (At i) t s e = let z : _≡_ {A = ℕ} 0 1 = cc in absurd (omega arith)
+accepted-positions Nowhere t s e = let q : t ≡ s = cc in ap (λ (v : State). v .positions) q
+
+closed-positions : (P : Problem) (s : Shape) (l : List Float) (x : Step) (t : State) → closed P (runIn s l x) ≡ accepted t → positionsIn s l ≡ t .positions
+closed-positions P s l (Failed k i) t e = let z : _≡_ {A = ℕ} 0 1 = cc in absurd (omega arith)
+closed-positions P s l (Running r) t e = accepted-positions (component (badResidual (allowed P) (residualOf P (positionsIn s l)))) (stateIn s l r) t e
+closed-positions P s l (Ended r) t e = accepted-positions (component (badResidual (allowed P) (residualOf P (positionsIn s l)))) (stateIn s l r) t e
+
+module _ (s : Shape) (ends offsets listed : List ℕ) (a : ℕ) (l : List Float) where
+  abbrev n : ℕ
+  n = s .cameras
+
+  abbrev L : Links
+  L = links s ends offsets listed
+
+  abbrev own : Problem
+  own = problemBy L (weightsIn s l) (load term l 0 n) a
+
+  -- the place that the search for a bad diagonal finds is the method's
+  found-is : (p : Place) → lowest (badDiagonal a (diagonalOf (load term l 0 n))) n ≡ p → solution own ≡ closed own (roundsFrom own (mostRounds n) (opened own p))
+  unfolding solution rounds roundsFrom problemBy
+  found-is p e = rw (← e)
+
+  pub solved-bad : (p : Place) (i k : ℕ) → p ≡ lowest (badDiagonal a (diagonalOf (load term l 0 n))) n → p ≡ At i → k ≡ diagonalNumber (diagonalIn l i) → IterativeSolved s own l l (NotPlaced k i)
+  unfolding problemBy
+  solved-bad p i k e h ek =
+      let b = found _ n i (sym e ∙ h) in
+      let d : diagonalIn l i ≡ diagonalOf (load term l 0 n) i = diagonal-here l n i (b .1) in
+      let j = diagonalNumber (diagonalOf (load term l 0 n) i) in
+      let ej : k ≡ j = ek ∙ rw d in
+      let q : solution own ≡ refused j i = found-is (At i) (sym e ∙ h) ∙ rw (rounds-over own (mostRounds n) (failed j i) refl) in
+      record {
+        answer = rw ej (sym (ap answerOf q));
+        positions = λ t u. let z : _≡_ {A = ℕ} 0 1 = cc (q, u) in absurd (omega arith);
+        outside = outside-same s l;
+      }
+
+  -- the system in the buffer, once the start is made
+  started-problem : (l1 : List Float) → Opened s a l l1 → problemIn L a l1 ≡ own
+  unfolding problemBy
+  started-problem l1 O =
+      λ i. record {
+        cameras = n;
+        anchor = a;
+        diagonal = diagonalOf (O .outside .terms i);
+        right = O .right i;
+        operator = reducedBy L (weights-kept s l l1 (O .outside .rest) i) a;
+      }
+
+  started-state : (l1 : List Float) (sums : Vec3) (first : Round) → Started s a l l1 sums first → stateIn s l1 first ≡ start own
+  unfolding problemBy start squareSum
+  started-state l1 sums first S = rw (S .round, S .sums, S .opened .right, S .opened .positions, S .opened .residual, S .opened .search)
+
+  pub solved-run : (l1 l2 l3 : List Float) (sums : Vec3) (first : Round) (x : Step) (o : Outcome) →
+      lowest (badDiagonal a (diagonalOf (load term l 0 n))) n ≡ Nowhere → Started s a l l1 sums first →
+      Iterated s (problemIn (links s ends offsets listed) a l1) (begun (stateIn s l1 first)) l1 l2 x →
+      Concluded s (problemIn (links s ends offsets listed) a l2) (runIn s l2 x) l2 l3 o →
+      IterativeSolved s own l l3 o
+  solved-run l1 l2 l3 sums first x o e S I0 C0 =
+      let p1 : problemIn L a l1 ≡ own = started-problem l1 (S .opened) in
+      let I : Iterated s own (begun (stateIn s l1 first)) l1 l2 x = subst (λ (Q : Problem). Iterated s Q (begun (stateIn s l1 first)) l1 l2 x) p1 I0 in
+      let p2 : problemIn L a l2 ≡ own = problem-in-kept L a l1 l2 (I .kept) ∙ p1 in
+      let C : Concluded s own (runIn s l2 x) l2 l3 o = subst (λ (Q : Problem). Concluded s Q (runIn s l2 x) l2 l3 o) p2 C0 in
+      let b : begun (stateIn s l1 first) ≡ begun (start own) = ap begun (started-state l1 sums first S) in
+      let q : solution own ≡ closed own (runIn s l2 x) = found-is Nowhere e ∙ sym (ap (closed own) (I .run ∙ ap (roundsFrom own (mostRounds n)) b)) in
+      record {
+        answer = C .answer ∙ sym (ap answerOf q);
+        positions = λ t u. C .kept .positions ∙ closed-positions own s l2 x t (sym q ∙ u);
+        outside = outside-then (S .opened .outside) (outside-then (I .kept .outside) (C .kept .kept .outside));
+      }
+
+-- where the network's system stands in the buffer, the problem is the network's
+pub problem-held : (net : Network) (l : List Float) (a : ℕ) → LinksSound (linksOf net) → Segments (net .shape) (weightsOf net) (terms net) l → a ≡ anchor net →
+    problemBy (linksOf net) (weightsIn (net .shape) l) (load term l 0 (net .shape .cameras)) a ≡ problem net
+unfolding problemBy
+problem-held net l a S G e =
+    (λ i. record {
+      cameras = net .shape .cameras;
+      anchor = a;
+      diagonal = diagonalOf (G .terms i);
+      right = rightOf (net .shape .cameras) a (G .terms i);
+      operator = λ x. reduced-held (linksOf net) (weightsOf net) (terms net) l S G a x i;
+    })
+    ∙ (λ i. problemBy (linksOf net) (weightsOf net) (terms net) (e i))
