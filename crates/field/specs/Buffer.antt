@@ -1,8 +1,8 @@
 -- How values that are each a fixed number of doubles lie one after another in a list of doubles: the lent buffers.
 -- (Document 01, 'Size and domain': 'Work buffer needed', and the triples and numbers that the outputs are filled with.)
-use Prim.Native.Nat.{ℕ, suc, _+_, _*_}
+use Prim.Native.Nat.{ℕ, suc, _+_, _*_, _/_}
 use mathlib.Core.List.{List, [], _∷_, _++_}
-use lib.ListN.{getD, set, take, drop}
+use lib.ListN.{length, getD, set, take, drop}
 use lib.Ieee.{Float, nan}
 use Rattle.field.specs.declared.Vec3.{Vec3}
 use Rattle.field.specs.Count.{field}
@@ -50,3 +50,7 @@ number = record { width = 1; numbers = λ a. a ∷ []; value = λ l. getD l 0 na
 -- a vector: x, y, z
 abbrev pub vector : Cell Vec3
 vector = record { width = 3; numbers = λ v. v .x ∷ v .y ∷ v .z ∷ []; value = λ l. record { x = getD l 0 nan; y = getD l 1 nan; z = getD l 2 nan } }
+
+-- the vectors whose numbers a list holds: three for each, and a rest of one or two numbers is none
+unfoldable pub vectorsIn : List Float → List Vec3
+vectorsIn l = load vector l 0 (length l / 3)

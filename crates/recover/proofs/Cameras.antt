@@ -1,33 +1,59 @@
 -- A camera's part and vector, where its three numbers are there. Assumes nothing.
-use Prim.Native.Nat.{ℕ, _+_, _*_, _/_, _≤_}
-use mathlib.Core.Path.{_≡_, ap, _∙_}
-use mathlib.Core.List.{List}
+use Prim.Native.Nat.{ℕ, _+_, _-_, _*_, _/_, _≤_, _<_}
+use mathlib.Core.Path.{_≡_, _∙_}
+use mathlib.Core.List.{List, []}
+use mathlib.Core.Bool.{Bool, true, false}
 use native.Mathlib.Nat.{add-zero, zero-add}
 use native.Mathlib.Omega.{arith}
 use lib.ListN.{length}
 use lib.Ieee.{Float}
-use borrow.Author.Tests.{le-leb}
-use Rattle.field.specs.Vec.{origin}
-use Rattle.field.specs.Buffer.{part, get, load, vector}
+use borrow.Author.Tests.{le-leb, lt-leb}
+use Rattle.field.specs.declared.Vec3.{Vec3}
+use Rattle.field.specs.Vec.{at, origin}
+use Rattle.field.specs.Buffer.{part, get, vector, vectorsIn}
 use Rattle.field.proofs.Buffers.{length-part, get-part, at-load}
-use Rattle.recover.specs.Part.{cameraPart, camerasIn}
-use Rattle.recover.specs.Recover.{cameraAt}
+use Rattle.recover.specs.Part.{marked, cameraPart}
 
-module _ (l : List Float) (i : ℕ) (h : 3 * i + 3 ≤ length l) where
-  whole-part : cameraPart l i ≡ part l (3 * i) 3
+-- ---- the marked buffer
+
+module _ (current trial : List Float) (mark : Bool) where
+  pub marked-trial : mark ≡ true → trial ≡ marked current trial mark
+  unfolding marked
+  marked-trial e = rw e
+
+  pub marked-current : mark ≡ false → current ≡ marked current trial mark
+  unfolding marked
+  marked-current e = rw e
+
+pub length-marked : (c t : List Float) (m : Bool) (k : ℕ) → length c ≡ k → length t ≡ k → length (marked c t m) ≡ k
+unfolding marked
+length-marked c t true k e f = f
+length-marked c t false k e f = e
+
+-- ---- a camera's part
+
+module _ (l : List Float) (i : ℕ) where
+  whole-part : 3 * i + 3 ≤ length l → cameraPart l i ≡ part l (3 * i) 3
   unfolding cameraPart
-  whole-part = rw (le-leb _ _ h)
+  whole-part h = rw (le-leb _ _ h)
 
-  pub length-camera : length (cameraPart l i) ≡ 3
-  length-camera = rw whole-part (length-part l (3 * i) 3 h)
+  pub part-whole : i < length l / 3 → part l (3 * i) (3 * i + 3 - 3 * i) ≡ cameraPart l i
+  unfolding cameraPart
+  part-whole k =
+      let h : 3 * i + 3 ≤ length l = omega arith in
+      let e : 3 * i + 3 - 3 * i ≡ 3 = omega arith in
+      simp (le-leb _ _ h, e)
 
-  -- the part's vector is the camera's
-  pub camera-vector : get vector (cameraPart l i) 0 ≡ get vector l (3 * i)
-  camera-vector = rw whole-part (get-part vector l (3 * i) 3 0 (omega arith) ∙ rw add-zero)
+  pub part-none : length l / 3 ≤ i → [] ≡ cameraPart l i
+  unfolding cameraPart
+  part-none k =
+      let h : length l < 3 * i + 3 = omega arith in
+      rw (lt-leb _ _ h)
 
-  pub camera-in : cameraAt (camerasIn l) i ≡ get vector l (3 * i)
-  camera-in = at-load vector l 0 (length l / 3) i origin (omega arith) ∙ rw zero-add
+  pub part-long : (q : List Float) → q ≡ cameraPart l i → 3 * i + 3 ≤ length l → 3 ≤ length q
+  part-long q e h = rw (e, whole-part h, length-part l (3 * i) 3 h) (omega arith)
 
--- a buffer of 3n numbers holds n cameras
-pub cameras-are : (l : List Float) (n : ℕ) → length l ≡ 3 * n → camerasIn l ≡ load vector l 0 n
-cameras-are l n h = let e : length l / 3 ≡ n = omega arith in ap (load vector l 0) e
+  pub part-vector : (q : List Float) (v : Vec3) → q ≡ cameraPart l i → v ≡ get vector q 0 → 3 * i + 3 ≤ length l → v ≡ at (vectorsIn l) i
+  unfolding vectorsIn
+  part-vector q v e f h =
+      f ∙ rw (e, whole-part h, get-part vector l (3 * i) 3 0 (omega arith), at-load vector l 0 (length l / 3) i origin (omega arith), add-zero, zero-add)

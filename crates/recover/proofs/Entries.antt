@@ -1,110 +1,110 @@
--- Entry points: the verdict from its parts, what it shows, and what the call leaves. Assumes nothing.
-use Prim.Native.Nat.{ℕ, _+_, _-_, _*_, _/_, _%_, _≤_, _<_}
+-- Entry points: what the tests show that a call passes, and what it leaves. Assumes nothing.
+use Prim.Native.Nat.{ℕ, _*_, _≤_}
 use mathlib.Core.Path.{_≡_, refl, sym, ap, _∙_}
 use mathlib.Core.List.{List, [], _∷_}
-use mathlib.Core.Bool.{Bool, true, false, cond, _&&_}
+use mathlib.Core.Bool.{Bool, true, _&&_}
 use native.Mathlib.Omega.{arith}
-use lib.Dec.{eqb}
 use lib.ListN.{length}
 use lib.Ieee.{Float}
-use borrow.Author.Tests.{eqb-true, eqb-false, eq-eqb, ne-eqb}
-use Rattle.field.specs.Count.{field}
-use Rattle.field.specs.Buffer.{load, vector}
+use borrow.Author.Tests.{eqb-true}
+use Rattle.double.proofs.Truth.{both-true}
+use Rattle.field.specs.Buffer.{vectorsIn}
+use Rattle.network.specs.declared.Shape.{Shape}
 use Rattle.network.specs.declared.Verdict.{Verdict}
 use Rattle.network.specs.declared.Verdict.the-variants.{Refused, Passed}
 use Rattle.network.specs.declared.Refusal.{Refusal}
-use Rattle.network.specs.Network.{Network}
-use Rattle.network.specs.Refusals.{verdict, stepTests, section, badVector}
-use Rattle.network.proofs.Verdicts.{both-true}
-use Rattle.network.proofs.Sound.{step-sound}
-use Rattle.recover.specs.Part.{marked, camerasIn}
-use Rattle.recover.specs.Reach.{sighted, RowIn, Fitting}
-use Rattle.recover.specs.Recover.{baseline, dotOf, dotsOf, scalesOf}
-use Rattle.recover.specs.Contracts.{Placed, chosen, buffersFit, placedVerdict, Filled}
-use Rattle.recover.proofs.Cameras.{cameras-are}
-use Rattle.recover.proofs.Lists.{row-in}
+use Rattle.network.specs.Network.{Network, network, rows}
+use Rattle.network.specs.Refusals.{verdict, countTests, lengthTests, networkFits, networkRowTests, section, badVector}
+use Rattle.network.specs.inner.Sound.{NetworkLengths, EndsSound}
+use Rattle.network.proofs.Verdicts.{stage-passed, passes-in}
+use Rattle.network.proofs.Sound.{counts-sound, lengths-fit, vectors-fit, network-fits, network-sound}
+use Rattle.recover.specs.Part.{marked}
+use Rattle.recover.specs.Recover.{dotsOf, scalesOf}
+use Rattle.recover.specs.Contracts.{Placed, placed, chosen, buffersFit, placedTests, placedVerdict, Filled, DotsFilled, ScalesFilled}
+use Rattle.recover.specs.inner.Reads.{Accepted, PositionsThere}
+use Rattle.recover.proofs.Cameras.{length-marked}
 
--- ---- the buffers' lengths
+-- ---- what 3 shows
 
--- two tests that follow from each other
-same-test : (a b c d : ℕ) → (a ≡ b → c ≡ d) → (c ≡ d → a ≡ b) → eqb a b ≡ eqb c d
-same-test a b c d f g = go (eqb a b) refl
-  where
-    go : (t : Bool) → eqb a b ≡ t → eqb a b ≡ eqb c d
-    go true e = e ∙ sym (eq-eqb c d (f (eqb-true a b e)))
-    go false e = e ∙ sym (ne-eqb c d (λ q. eqb-false a b e (g q)))
+pub lengths-are : (v : Verdict) (a b : Bool) → v ≡ verdict (lengthTests a) → a ≡ b → v ≡ verdict (lengthTests b)
+lengths-are v a b e h = e ∙ ap (λ (t : Bool). verdict (lengthTests t)) h
 
-pub triples-test : (l n : ℕ) → l / 3 ≡ n → eqb (l % 3) 0 ≡ eqb l (3 * n)
-triples-test l n h = same-test (l % 3) 0 l (3 * n) (λ q. omega arith) (λ q. omega arith)
+buffers-fit : (s : Shape) (current trial : List Float) (room : ℕ) → buffersFit s current trial room ≡ true →
+    (length current ≡ 3 * s .cameras) × (length trial ≡ 3 * s .cameras) × (room ≡ rows s)
+unfolding buffersFit
+buffers-fit s current trial room e =
+    let h = both-true _ _ e in
+    let k = both-true _ _ (h .1) in
+    (vectors-fit _ _ (h .0), vectors-fit _ _ (k .0), eqb-true _ _ (k .1))
 
-pub triples-other : (l n : ℕ) → (l / 3 ≡ n → ⊥) → false ≡ eqb l (3 * n)
-triples-other l n h = sym (ne-eqb l (3 * n) (λ q. h (omega arith)))
+module _ (s : Shape) (ends : List ℕ) (rays weights scales points : List Float) (offsets listed : List ℕ) (current trial : List Float) (room : ℕ) (v : Verdict) where
+  abbrev net : Network
+  net = network s ends rays weights scales points offsets listed
 
-pub sum-test : (k b e : ℕ) → b ≤ k → eqb (k - b) e ≡ eqb k (b + e)
-sum-test k b e h = same-test (k - b) e k (b + e) (λ q. omega arith) (λ q. omega arith)
+  pub network-measured : v ≡ verdict (lengthTests (networkFits net && buffersFit s current trial room)) → v ≡ Passed → NetworkLengths net
+  network-measured e p = network-fits net (both-true _ _ (lengths-fit _ (sym e ∙ p)) .0)
 
-pub sum-short : (k b e : ℕ) → k < b → false ≡ eqb k (b + e)
-sum-short k b e h = sym (ne-eqb k (b + e) (λ q. omega arith))
+  pub cameras-measured : (mark : Bool) (l : List Float) →
+      v ≡ verdict (lengthTests (networkFits net && buffersFit s current trial room)) → v ≡ Passed → l ≡ marked current trial mark → length l ≡ 3 * s .cameras
+  cameras-measured mark l e p q =
+      let f = buffers-fit s current trial room (both-true (networkFits net) _ (lengths-fit _ (sym e ∙ p)) .1) in
+      ap length q ∙ length-marked current trial mark _ (f .0) (f .1)
 
-absorbed : (m c t s : Bool) → (cond m t c && (c && (t && s))) ≡ (c && (t && s))
-absorbed true true true s = refl
-absorbed true true false s = refl
-absorbed true false true s = refl
-absorbed true false false s = refl
-absorbed false true t s = refl
-absorbed false false t s = refl
+  -- ---- one after another
 
-chosen-test : (c t : List Float) (m : Bool) (k : ℕ) → eqb (length (marked c t m)) k ≡ cond m (eqb (length t) k) (eqb (length c) k)
-chosen-test c t true k = refl
-chosen-test c t false k = refl
+  pub placed-checked : (mark : Bool) (l : List Float) (x y : Verdict) →
+      x ≡ verdict (countTests s) → x ≡ Passed → v ≡ verdict (lengthTests (networkFits net && buffersFit s current trial room)) → v ≡ Passed →
+      l ≡ marked current trial mark → y ≡ verdict (networkRowTests net (section (s .cameras) (badVector l) ∷ [])) → y ≡ placedVerdict (placed net current trial mark room)
+  unfolding placedTests
+  placed-checked mark l x y e p f q h k = passes-in (countTests s) _ e p (passes-in (lengthTests _) _ f q (k ∙ rw h))
 
--- the marked buffer's length is tested with both
-pub placed-verdict : (i : Placed) (r : Verdict) (fit : Bool) (l : List Float) → let n = i .net .graph .shape .cameras in
-    l ≡ chosen i → fit ≡ buffersFit i → r ≡ verdict (stepTests (i .net) (section n (badVector l) ∷ []) (eqb (length l) (3 * n) && fit)) → r ≡ placedVerdict i
-unfolding placedVerdict
-placed-verdict i r fit l e f h =
-    let n = i .net .graph .shape .cameras in
-    let q : (eqb (length (chosen i)) (3 * n) && buffersFit i) ≡ buffersFit i = ap (λ (t : Bool). t && buffersFit i) (chosen-test (i .current) (i .trial) (i .mark) (3 * n)) ∙ absorbed (i .mark) _ _ _ in
-    h ∙ rw (e, f, q)
+-- ---- what a passed call may do, and what it leaves
 
-chosen-length : (c t : List Float) (m : Bool) (k : ℕ) → length c ≡ k → length t ≡ k → length (marked c t m) ≡ k
-chosen-length c t true k e f = f
-chosen-length c t false k e f = e
-
--- ---- what a passed call may do
-
-pub placed-fits : (i : Placed) (out : List Float) (v : Verdict) → v ≡ placedVerdict i → v ≡ Passed → length out ≡ i .room → Fitting (i .net) (chosen i) out
-unfolding placedVerdict
-placed-fits i out v e p o =
-    let h = step-sound (i .net) (section (i .net .graph .shape .cameras) (badVector (chosen i)) ∷ []) (buffersFit i) (sym e ∙ p) in
-    let f = both-true _ _ (h .1) in
-    let g = both-true _ _ (f .1) in
+accepted : (i : Placed) (out : List Float) (v : Verdict) → v ≡ placedVerdict i → v ≡ Passed → length out ≡ i .room → Accepted (i .net) (chosen i) out
+unfolding placedTests
+accepted i out v e p o =
+    let net = i .net in
+    let s = net .shape in
+    let a = stage-passed (countTests s) _ (sym e ∙ p) in
+    let b = stage-passed (lengthTests (networkFits net && buffersFit s (i .current) (i .trial) (i .room))) _ (a .1) in
+    let f = both-true (networkFits net) _ (lengths-fit _ (b .0)) in
+    let g = buffers-fit s (i .current) (i .trial) (i .room) (f .1) in
     record {
-      sound = h .0;
-      cameras = chosen-length (i .current) (i .trial) (i .mark) _ (eqb-true _ _ (f .0)) (eqb-true _ _ (g .0));
-      room = o ∙ eqb-true _ _ (g .1);
+      sound = network-sound net (section (s .cameras) (badVector (chosen i)) ∷ []) (counts-sound s (a .0)) (f .0) (b .1) .0;
+      cameras = length-marked (i .current) (i .trial) (i .mark) _ (g .0) (g .1);
+      room = o ∙ g .2;
     }
 
-module _ (net : Network) (l out : List Float) (fit : Fitting net l out) where
-  pub rows-in : (r : ℕ) → r < length out → RowIn (net .graph .shape .bearings) (net .graph .ends) (net .positions) l r
-  rows-in r h = row-in net (fit .sound) l r (fit .cameras) (omega (arith, fit .room))
+pub left-refused : (i : Placed) (xs out : List Float) (v : Verdict) (r : Refusal) → v ≡ placedVerdict i → v ≡ Refused r → Filled i xs (Refused r) out out
+left-refused i xs out v r is e = record { answer = sym e ∙ is; output = rw (← is, e) }
 
-  pub rays-in : 3 * length out ≤ length (net .rays)
-  rays-in = omega (arith, fit .room, fit .sound .rays)
+left-filled : (i : Placed) (xs out out' : List Float) (v : Verdict) → v ≡ placedVerdict i → v ≡ Passed → out' ≡ xs → Filled i xs Passed out out'
+left-filled i xs out out' v is e h = record { answer = sym e ∙ is; output = rw (← is, e) h }
 
-  -- the cameras of the buffer are the n that were lent
-  pub dots-are : (w : List Float) → w ≡ field (length out) (dotOf (sighted (net .graph .shape .bearings) (net .graph .ends) (net .rays) (net .positions)) (camerasIn l)) → w ≡ dotsOf net (load vector l 0 (net .graph .shape .cameras))
-  unfolding dotOf baseline
-  dots-are w e = e ∙ rw (fit .room, cameras-are l (net .graph .shape .cameras) (fit .cameras))
+module _ (s : Shape) (ends : List ℕ) (rays weights scales points : List Float) (offsets listed : List ℕ) (current trial : List Float) (mark : Bool) (out l : List Float) (v : Verdict) where
+  abbrev lent : Placed
+  lent = placed (network s ends rays weights scales points offsets listed) current trial mark (length out)
 
-  pub scales-are : (w : List Float) → w ≡ scalesOf net (camerasIn l) → w ≡ scalesOf net (load vector l 0 (net .graph .shape .cameras))
-  scales-are w e = e ∙ ap (scalesOf net) (cameras-are l (net .graph .shape .cameras) (fit .cameras))
+  pub may-fill : v ≡ placedVerdict lent → v ≡ Passed → l ≡ marked current trial mark → Accepted (lent .net) l out
+  may-fill e p q = rw q (accepted lent out v e p refl)
 
--- ---- what the call leaves
+  pub may-read-ends : v ≡ placedVerdict lent → v ≡ Passed → EndsSound s ends
+  may-read-ends e p = accepted lent out v e p refl .sound .links .ends
 
-module _ (i : Placed) (xs out : List Float) (v : Verdict) (is : v ≡ placedVerdict i) where
-  pub left-refused : (r : Refusal) → v ≡ Refused r → Filled i xs (Refused r) out out
-  left-refused r e = record { answer = sym e ∙ is; output = rw (← is, e) }
+  pub may-read-positions : v ≡ placedVerdict lent → v ≡ Passed → l ≡ marked current trial mark → PositionsThere s points l
+  may-read-positions e p q =
+      let a = may-fill e p q in
+      record { points = a .sound .lengths .content .domain .positions; cameras = a .cameras }
 
-  pub left-filled : (out' : List Float) → v ≡ Passed → out' ≡ xs → Filled i xs Passed out out'
-  left-filled out' e h = record { answer = sym e ∙ is; output = rw (← is, e) h }
+  pub may-read-rays : v ≡ placedVerdict lent → v ≡ Passed → 3 * rows s ≤ length rays
+  may-read-rays e p = omega (arith, accepted lent out v e p refl .sound .lengths .content .domain .rays)
+
+  pub may-store : v ≡ placedVerdict lent → v ≡ Passed → length out ≡ rows s
+  may-store e p = accepted lent out v e p refl .room
+
+  module _ (out' : List Float) where
+    pub dots-left : v ≡ placedVerdict lent → v ≡ Passed → l ≡ marked current trial mark → out' ≡ dotsOf (lent .net) (vectorsIn l) → DotsFilled lent Passed out out'
+    dots-left e p q h = left-filled lent _ out out' v e p (h ∙ rw q)
+
+    pub scales-left : v ≡ placedVerdict lent → v ≡ Passed → l ≡ marked current trial mark → out' ≡ scalesOf (lent .net) (vectorsIn l) → ScalesFilled lent Passed out out'
+    scales-left e p q h = left-filled lent _ out out' v e p (h ∙ rw q)

@@ -1,9 +1,7 @@
 pub mod Cameras
 pub mod Rows
-pub mod Scatter
-pub mod Lists
-pub mod Fill
 pub mod Points
+pub mod Stores
 pub mod Rescaling
 pub mod Entries
 pub mod Edges

@@ -1,137 +1,127 @@
--- Scales: W of a point, the answers as they are stored, and that every row's is. Assumes nothing.
-use Prim.Native.Nat.{ℕ, suc, _+_, _≤_, _<_}
+-- Scales: the new scales as they are stored, and that every row's is. Assumes nothing.
+use Prim.Native.Nat.{ℕ, zero, suc, _+_, _≤_, _<_}
 use mathlib.Core.Path.{_≡_, refl, sym, _∙_}
 use mathlib.Core.List.{List}
-use mathlib.Core.Bool.{Bool, true, false, _&&_}
-use native.Mathlib.Nat.{zero-add}
+use mathlib.Core.Bool.{Bool, true, false, cond}
 use native.Mathlib.Omega.{arith}
 use lib.Dec.{eqb, ltb}
-use lib.ListN.{length, set}
-use lib.Ieee.{Float, nan, binary64, add, mul, lt}
-use borrow.Author.Tests.{lt-ltb, le-ltb, ltb-true, ltb-false}
+use lib.ListN.{length, getD, set}
+use lib.Ieee.{Float, nan, lt}
+use borrow.Author.Tests.{lt-ltb, le-ltb, ltb-true, ltb-false, eqb-true}
 use Rattle.field.specs.declared.Vec3.{Vec3}
-use Rattle.field.specs.Vec.{null}
-use Rattle.field.specs.Count.{upto}
-use Rattle.field.proofs.Counting.{upto-zero, upto-suc, upto-add}
-use Rattle.double.specs.Sums.{total}
-use Rattle.network.specs.Network.{Network, rows, weight, scaleOf, offset, listedAt, listSize}
-use Rattle.network.specs.Sound.{NetworkSound}
-use Rattle.system.specs.System.{tiny, effective, rowOf, pointWeight}
-use Rattle.recover.specs.declared.Scale.{Scale}
-use Rattle.recover.specs.Reach.{sighted, weighed, ListIn}
-use Rattle.recover.specs.Order.{storedRow, rescaled}
-use Rattle.recover.specs.Recover.{baseline, idle, answer, scaleAnswer, scaleNumber, newScale, scalesOf}
-use Rattle.recover.proofs.Lists.{place-below, row-below, row-own, listed-hit}
-use Rattle.recover.proofs.Scatter.{Hit, storeAt, scatter-all}
+use Rattle.network.specs.declared.Shape.{Shape}
+use Rattle.network.specs.declared.Span.{Span}
+use Rattle.network.specs.Network.{Network, network, links, rows, isBearing, spanOf}
+use Rattle.network.specs.Lists.{named}
+use Rattle.network.specs.inner.Sound.{LinksSound}
+use Rattle.system.specs.System.{tiny, effectiveIn, weightSum, sumsFrom}
+use Rattle.recover.specs.Recover.{directionKept, keptByWeight, newScaleIn, newScale, scalesOf}
+use Rattle.recover.specs.inner.Order.{listedRow, ownRow, storedAt, directionScale}
+use Rattle.recover.proofs.Stores.{Hit, stored-ext, stored-none, stored-more, stored-add, stored-all}
 
--- ---- W
+-- ---- the loops over a point's list and over the directions
 
--- the sum over the first i rows of a list
-unfoldable pub weightUpto : Network → ℕ → ℕ → Float
-weightUpto net p i = total binary64 (λ k. effective net (rowOf net p k)) null i
+pub list-more : (listed : List ℕ) (g : ℕ → Float) (f i r : ℕ) (l w w' : List Float) →
+    r ≡ getD listed (f + i) 0 → w ≡ storedAt (listedRow listed) g f i l → w' ≡ set w r (g r) → w' ≡ storedAt (listedRow listed) g f (i + 1) l
+unfolding listedRow
+list-more listed g f i r l w w' e h t = stored-more (listedRow listed) g f i r l w w' e h t
 
-pub weight-none : (net : Network) (p : ℕ) → null ≡ weightUpto net p 0
-unfolding weightUpto total
-weight-none net p = refl
+pub directions-more : (s : Shape) (ends : List ℕ) (rays weights scales points : List Float) (cs : List Vec3) (i : ℕ) (keeps : Bool) (l w w' : List Float) → let b = s .bearings in
+    keeps ≡ directionKept b (getD weights (b + i) nan) → w ≡ storedAt ownRow (directionScale s ends rays weights scales points cs) b i l →
+    w' ≡ set w (b + i) (newScaleIn keeps s ends rays scales points cs (b + i)) → w' ≡ storedAt ownRow (directionScale s ends rays weights scales points cs) b (i + 1) l
+unfolding directionScale ownRow
+directions-more s ends rays weights scales points cs i keeps l w w' e h t =
+    stored-more ownRow (directionScale s ends rays weights scales points cs) (s .bearings) i (s .bearings + i) l w w' refl h (t ∙ rw e)
 
-pub weight-more : (net : Network) (p i : ℕ) (s e : Float) → s ≡ weightUpto net p i → let r = rowOf net p i in e ≡ mul binary64 (mul binary64 (weight (net .graph) r) (scaleOf net r)) (scaleOf net r) → add binary64 s e ≡ weightUpto net p (suc i)
-unfolding weightUpto total effective
-weight-more net p i s e h f = rw (h, f)
+-- ---- of a network that was not refused
 
-pub weight-whole : (net : Network) (p i : ℕ) (s : Float) → i ≡ listSize net p → s ≡ weightUpto net p i → s ≡ pointWeight net p
-unfolding weightUpto pointWeight
-weight-whole net p i s e h = rw e at h
+-- a row that is named is named somewhere
+named-place : (listed : List ℕ) (r n k : ℕ) → named listed r n ≡ suc k → Hit (listedRow listed) n r
+unfolding named listedRow
+named-place listed r zero k e = absurd (omega arith)
+named-place listed r (suc n) k e = go (named-place listed r n k) (eqb (getD listed n 0) r) refl e
+  where
+    go : (named listed r n ≡ suc k → Hit (listedRow listed) n r) → (t : Bool) → eqb (getD listed n 0) r ≡ t → named listed r n + cond t 1 0 ≡ suc k → Hit (listedRow listed) (suc n) r
+    go ih true q e = record { place = n; below = omega arith; is = eqb-true _ _ q }
+    go ih false q e =
+        let h = ih (omega arith) in
+        record { place = h .place; below = omega (arith, h .below); is = h .is }
 
--- W reads nothing else of the network
-pub weight-of : (net : Network) (p : ℕ) → pointWeight (weighed (net .graph .weights) (net .scales) (net .offsets) (net .listed)) p ≡ pointWeight net p
-unfolding pointWeight effective
-weight-of net p = refl
+module _ (s : Shape) (ends : List ℕ) (rays weights scales points : List Float) (offsets listed : List ℕ) (cs : List Vec3) where
+  abbrev net : Network
+  net = network s ends rays weights scales points offsets listed
 
-pub list-in : (net : Network) → NetworkSound net → (p : ℕ) → p < net .graph .shape .points → ListIn (weighed (net .graph .weights) (net .scales) (net .offsets) (net .listed)) p
-list-in net sound p h = record {
-  next = omega (arith, sound .offsets);
-  rises = sound .rises p h;
-  within = omega (arith, sound .within (p + 1) (omega arith), sound .listed);
-  weight = λ i k. omega (arith, row-below net sound p i h k, sound .ends .weights);
-  scale = λ i k. omega (arith, row-below net sound p i h k, sound .scales);
-}
+  -- a direction's new scale is the network's
+  own-scale : (r : ℕ) → s .bearings ≤ r → directionScale s ends rays weights scales points cs r ≡ newScale net cs r
+  unfolding directionScale newScale keptByWeight
+  own-scale r h = rw (le-ltb _ _ h)
 
--- ---- the stores
+  module _ (L : LinksSound (links s ends offsets listed)) where
+    -- so is that of a bearing on point p, where W is p's
+    listed-scale : (p i : ℕ) (w : Float) → p < s .points → i < spanOf offsets p .size → w ≡ weightSum (effectiveIn weights scales) listed (spanOf offsets p) →
+        let r = listedRow listed (spanOf offsets p .first + i) in newScaleIn (lt w tiny) s ends rays scales points cs r ≡ newScale net cs r
+    unfolding newScale keptByWeight sumsFrom listedRow
+    listed-scale p i w h k e =
+        let place : spanOf offsets p .first + i < s .bearings = omega (arith, L .offsets .rises p h, L .offsets .within (p + 1) (omega arith)) in
+        let own = L .own p (spanOf offsets p .first + i) h (omega arith) (omega arith) in
+        rw (lt-ltb _ _ (L .listed .bearing _ place), own, ← e)
 
--- the network as far as a row's answer reads it
-abbrev seen : Network → Network
-seen net = sighted (net .graph .shape .bearings) (net .graph .ends) (net .rays) (net .positions)
+    pub point-stored : (p : ℕ) (k : Span) (w : Float) (l v : List Float) →
+        p < s .points → k ≡ spanOf offsets p → w ≡ weightSum (effectiveIn weights scales) listed k →
+        v ≡ storedAt (listedRow listed) (newScaleIn (lt w tiny) s ends rays scales points cs) (k .first) (k .size) l →
+        v ≡ storedAt (listedRow listed) (newScale net cs) (spanOf offsets p .first) (spanOf offsets p .size) l
+    point-stored p k w l v h ek ew ev =
+        ev ∙ rw ek (stored-ext _ _ _ _ _ _ l (λ i b. refl) (λ i b. listed-scale p i w h b (ew ∙ rw ek)))
 
-module _ (net : Network) (cs : List Vec3) where
-  pub rescaled-none : (s : ℕ) (l : List Float) → l ≡ rescaled net cs s 0 l
-  unfolding rescaled
-  rescaled-none s l = sym (upto-zero _ l)
+    -- ---- the loop over the points
 
-  -- the next row's answer is stored; `keeps` is what is said of the row's weight
-  store-more : (s k r : ℕ) (keeps : Bool) (a : Scale) (l w w' : List Float) → storedRow net (s + k) ≡ r → keeps ≡ idle net r → a ≡ answer keeps (seen net) cs r → w ≡ rescaled net cs s k l → w' ≡ set w r (scaleNumber (scaleOf net r) a) → w' ≡ rescaled net cs s (suc k) l
-  unfolding rescaled newScale scaleAnswer baseline
-  store-more s k r keeps a l w w' e f g h t = t ∙ rw (upto-suc _ k l, e, ← f, ← g, ← h)
+    pub points-none : (l : List Float) → l ≡ storedAt (listedRow listed) (newScale net cs) 0 (getD offsets 0 0) l
+    points-none l = rw (L .offsets .start) (stored-none _ _ 0 l)
 
-  from-zero : (k : ℕ) (l : List Float) → rescaled net cs 0 k l ≡ upto (storeAt (storedRow net) (newScale net cs)) k l
-  unfolding rescaled
-  from-zero k l = simp zero-add
-
-  -- one run of stores, and the next
-  rescaled-add : (s k : ℕ) (l w w' : List Float) → w ≡ rescaled net cs 0 s l → w' ≡ rescaled net cs s k w → w' ≡ rescaled net cs 0 (s + k) l
-  unfolding rescaled
-  rescaled-add s k l w w' e h = h ∙ rw (e, from-zero s l, from-zero (s + k) l) (sym (upto-add (storeAt (storedRow net) (newScale net cs)) s k l))
-
-  stored-bearing : (k : ℕ) → k < net .graph .shape .bearings → storedRow net k ≡ listedAt net k
-  unfolding storedRow
-  stored-bearing k h = rw (lt-ltb _ _ h)
-
-  stored-direction : (k : ℕ) → net .graph .shape .bearings ≤ k → storedRow net k ≡ k
-  unfolding storedRow
-  stored-direction k h = rw (le-ltb _ _ h)
-
-  module _ (sound : NetworkSound net) where
-    -- a bearing of point p's list
-    pub bearing-more : (p i : ℕ) (w : Float) (a : Scale) (l v v' : List Float) → let r = rowOf net p i in
-        p < net .graph .shape .points → i < listSize net p → w ≡ pointWeight net p → a ≡ answer (lt w tiny) (seen net) cs r → v ≡ rescaled net cs (offset net p) i l → v' ≡ set v r (scaleNumber (scaleOf net r) a) → v' ≡ rescaled net cs (offset net p) (suc i) l
-    unfolding idle
-    bearing-more p i w a l v v' h k e f g t =
-        let r = rowOf net p i in
-        let q : lt w tiny ≡ idle net r = rw (lt-ltb _ _ (row-below net sound p i h k), row-own net sound p i h k, e) in
-        store-more (offset net p) i r (lt w tiny) a l v v' (stored-bearing (offset net p + i) (place-below net sound p i h k)) q f g t
-
-    pub direction-more : (i : ℕ) (keeps : Bool) (a : Scale) (l v v' : List Float) → let b = net .graph .shape .bearings in let r = b + i in
-        keeps ≡ eqb b 0 && lt (weight (net .graph) r) tiny → a ≡ answer keeps (seen net) cs r → v ≡ rescaled net cs b i l → v' ≡ set v r (scaleNumber (scaleOf net r) a) → v' ≡ rescaled net cs b (suc i) l
-    unfolding idle
-    direction-more i keeps a l v v' e f g t =
-        let b = net .graph .shape .bearings in
-        let q : keeps ≡ idle net (b + i) = e ∙ rw (le-ltb (b + i) b (omega arith)) in
-        store-more b i (b + i) keeps a l v v' (stored-direction (b + i) (omega arith)) q f g t
-
-    -- every row is stored: a bearing where the lists name it, a direction at its own place
-    hit : (r : ℕ) → r < rows (net .graph .shape) → Hit (storedRow net) (rows (net .graph .shape)) r
-    hit r h = go (ltb r (net .graph .shape .bearings)) refl
-      where
-        go : (t : Bool) → ltb r (net .graph .shape .bearings) ≡ t → Hit (storedRow net) (rows (net .graph .shape)) r
-        go true e =
-            let s = listed-hit net sound r (ltb-true _ _ e) in
-            record { place = s .place; below = omega (arith, s .below); is = stored-bearing (s .place) (s .below) ∙ s .is }
-        go false e = record { place = r; below = h; is = stored-direction r (ltb-false _ _ e) }
-
-    rescaled-all : (l : List Float) → length l ≡ rows (net .graph .shape) → rescaled net cs 0 (rows (net .graph .shape)) l ≡ scalesOf net cs
-    rescaled-all l e = from-zero (rows (net .graph .shape)) l ∙ scatter-all (storedRow net) (newScale net cs) (rows (net .graph .shape)) (rows (net .graph .shape)) l nan e hit
-
-    -- ---- the loop over the points, and what follows it
-
-    pub points-none : (l : List Float) → l ≡ rescaled net cs 0 (offset net 0) l
-    points-none l = rw (sound .start) (rescaled-none 0 l)
-
-    pub points-more : (p : ℕ) (l w w' : List Float) → p < net .graph .shape .points → w ≡ rescaled net cs 0 (offset net p) l → w' ≡ rescaled net cs (offset net p) (listSize net p) w → w' ≡ rescaled net cs 0 (offset net (p + 1)) l
+    pub points-more : (p : ℕ) (l w w' : List Float) →
+        p < s .points → w ≡ storedAt (listedRow listed) (newScale net cs) 0 (getD offsets p 0) l →
+        w' ≡ storedAt (listedRow listed) (newScale net cs) (spanOf offsets p .first) (spanOf offsets p .size) w →
+        w' ≡ storedAt (listedRow listed) (newScale net cs) 0 (getD offsets (p + 1) 0) l
     points-more p l w w' h e f =
-        let s : offset net p + listSize net p ≡ offset net (p + 1) = omega (arith, sound .rises p h) in
-        rw s at (rescaled-add (offset net p) (listSize net p) l w w' e f)
+        let k = spanOf offsets p in
+        let q : k .first + k .size ≡ getD offsets (p + 1) 0 = omega (arith, L .offsets .rises p h) in
+        rw q at (stored-add _ _ (k .first) (k .size) l w w' e f)
 
-    pub points-all : (p : ℕ) (l w : List Float) → p ≡ net .graph .shape .points → w ≡ rescaled net cs 0 (offset net p) l → w ≡ rescaled net cs 0 (net .graph .shape .bearings) l
-    points-all p l w e h = h ∙ rw (e, sound .end)
+    pub points-ended : (p : ℕ) (l w : List Float) →
+        w ≡ storedAt (listedRow listed) (newScale net cs) 0 (getD offsets p 0) l → p ≤ s .points → s .points ≤ p →
+        w ≡ storedAt (listedRow listed) (newScale net cs) 0 (s .bearings) l
+    points-ended p l w e a b =
+        let q : p ≡ s .points = omega arith in
+        e ∙ rw (q, L .offsets .end)
 
-    pub scales-all : (l w w' : List Float) → length l ≡ rows (net .graph .shape) → w ≡ rescaled net cs 0 (net .graph .shape .bearings) l → w' ≡ rescaled net cs (net .graph .shape .bearings) (net .graph .shape .directions) w → w' ≡ scalesOf net cs
-    scales-all l w w' h e f = rescaled-add (net .graph .shape .bearings) (net .graph .shape .directions) l w w' e f ∙ rescaled-all l h
+    -- ---- bearings where the lists name them, directions at their own places
+
+    abbrev rowAtPlace : ℕ → ℕ
+    rowAtPlace k = cond (isBearing s k) (listedRow listed k) (ownRow k)
+
+    at-bearing : (k : ℕ) → k < s .bearings → listedRow listed k ≡ rowAtPlace k
+    at-bearing k h = rw (lt-ltb _ _ h)
+
+    at-direction : (k : ℕ) → s .bearings ≤ k → ownRow k ≡ rowAtPlace k
+    at-direction k h = rw (le-ltb _ _ h)
+
+    hit : (r : ℕ) → r < rows s → Hit rowAtPlace (rows s) r
+    unfolding ownRow
+    hit r h = go (ltb r (s .bearings)) refl
+      where
+        go : (t : Bool) → ltb r (s .bearings) ≡ t → Hit rowAtPlace (rows s) r
+        go true e =
+            let t = named-place listed r (s .bearings) 0 (L .once r (ltb-true _ _ e)) in
+            record { place = t .place; below = omega (arith, t .below); is = sym (at-bearing (t .place) (t .below)) ∙ t .is }
+        go false e = record { place = r; below = h; is = sym (at-direction r (ltb-false _ _ e)) }
+
+    pub scales-stored : (l w w' : List Float) →
+        length l ≡ rows s → w ≡ storedAt (listedRow listed) (newScale net cs) 0 (s .bearings) l →
+        w' ≡ storedAt ownRow (directionScale s ends rays weights scales points cs) (s .bearings) (s .directions) w → w' ≡ scalesOf net cs
+    unfolding ownRow
+    scales-stored l w w' h e f =
+        let b = s .bearings in
+        let x : w ≡ storedAt rowAtPlace (newScale net cs) 0 b l = e ∙ stored-ext _ _ _ _ 0 b l (λ i k. at-bearing (0 + i) (omega arith)) (λ i k. refl) in
+        let y : w' ≡ storedAt rowAtPlace (newScale net cs) b (s .directions) w =
+        f ∙ stored-ext _ _ _ _ b (s .directions) w (λ i k. at-direction (b + i) (omega arith)) (λ i k. own-scale (b + i) (omega arith)) in
+        stored-add _ _ b (s .directions) l w w' x y ∙ stored-all rowAtPlace (newScale net cs) (rows s) (rows s) l h hit

@@ -1,17 +1,17 @@
 -- What a call of dots or scales is lent, and what it leaves (document 01: 'dots and scales fill B, then E numbers'; they use 1 to 7).
-use Prim.Native.Nat.{ℕ, _*_}
-use mathlib.Core.List.{List, [], _∷_}
+use Prim.Native.Nat.{ℕ}
+use mathlib.Core.List.{List, [], _∷_, _++_}
 use mathlib.Core.Bool.{Bool, _&&_}
 use mathlib.Core.Path.{_≡_}
-use lib.ListN.{length}
 use lib.Dec.{eqb}
 use lib.Ieee.{Float}
 use Rattle.field.specs.declared.Vec3.{Vec3}
-use Rattle.field.specs.Buffer.{load, vector}
+use Rattle.field.specs.Buffer.{vectorsIn}
+use Rattle.network.specs.declared.Shape.{Shape}
 use Rattle.network.specs.declared.Verdict.{Verdict}
 use Rattle.network.specs.declared.Verdict.the-variants.{Refused, Passed}
 use Rattle.network.specs.Network.{Network, rows}
-use Rattle.network.specs.Refusals.{verdict, stepTests, section, badVector}
+use Rattle.network.specs.Refusals.{verdict, countTests, lengthTests, networkFits, vectorsFit, networkRowTests, section, badVector}
 use Rattle.recover.specs.Part.{marked}
 use Rattle.recover.specs.Recover.{dotsOf, scalesOf}
 
@@ -26,22 +26,28 @@ pub record Placed : Type 0 where
 abbrev pub placed : Network → List Float → List Float → Bool → ℕ → Placed
 placed net current trial mark room = record { net = net; current = current; trial = trial; mark = mark; room = room }
 
--- the buffer that the mark names, and the cameras that it holds
+-- the buffer that the mark names, and the cameras that it holds: n, where nothing is refused
 abbrev pub chosen : Placed → List Float
 chosen i = marked (i .current) (i .trial) (i .mark)
 
 abbrev pub camerasOf : Placed → List Vec3
-camerasOf i = load vector (chosen i) 0 (i .net .graph .shape .cameras)
+camerasOf i = vectorsIn (chosen i)
 
 -- both camera buffers hold 3n numbers, and the output B + E
-abbrev pub buffersFit : Placed → Bool
-buffersFit i =
-    let n = i .net .graph .shape .cameras in
-    eqb (length (i .current)) (3 * n) && (eqb (length (i .trial)) (3 * n) && eqb (i .room) (rows (i .net .graph .shape)))
+unfoldable pub buffersFit : Shape → List Float → List Float → ℕ → Bool
+buffersFit s current trial room = vectorsFit (s .cameras) current && (vectorsFit (s .cameras) trial && eqb room (rows s))
 
--- 3 tests the buffers too; 7 tests the marked cameras after the points.
-unfoldable pub placedVerdict : Placed → Verdict
-placedVerdict i = verdict (stepTests (i .net) (section (i .net .graph .shape .cameras) (badVector (chosen i)) ∷ []) (buffersFit i))
+-- 1 and 2; 3, of the buffers too; 4 to 7, where 7 tests the marked cameras after the points
+unfoldable pub placedTests : Placed → List Verdict
+placedTests i =
+    let net = i .net in
+    let s = net .shape in
+    countTests s
+    ++ (lengthTests (networkFits net && buffersFit s (i .current) (i .trial) (i .room))
+    ++ networkRowTests net (section (s .cameras) (badVector (chosen i)) ∷ []))
+
+abbrev pub placedVerdict : Placed → Verdict
+placedVerdict i = verdict (placedTests i)
 
 -- the output: untouched on a refusal, else filled whole
 abbrev pub filled : Verdict → List Float → List Float → List Float

@@ -7,7 +7,7 @@ use lib.Ieee.{Float, binary64, ofBits}
 use Rattle.field.specs.declared.Vec3.{Vec3}
 use Rattle.field.specs.Vec.{null, origin}
 use Rattle.network.specs.declared.Verdict.the-variants.{Passed}
-use Rattle.network.specs.Network.{lent}
+use Rattle.network.specs.Network.{network, shape}
 use Rattle.system.specs.System.{tiny, one}
 use Rattle.system.specs.Edges.{single, five}
 use Rattle.recover.specs.Recover.{least, pointsOf, scalesOf}
@@ -29,7 +29,7 @@ vec a b c = record { x = a; y = b; z = c }
 -- 'Scales, cameras (0,0,0) and target, direction (1,0,0), weight 1': target (x,0,0), old scale 1. The trial cameras, all zero, are not marked.
 abbrev pub baselineCase : Float → Placed
 baselineCase x =
-    placed (lent 2 0 0 1 (0 ∷ 1 ∷ []) (one ∷ null ∷ null ∷ []) (one ∷ []) (one ∷ []) [] (0 ∷ []) [])
+    placed (network (shape 2 0 0 1) (0 ∷ 1 ∷ []) (one ∷ null ∷ null ∷ []) (one ∷ []) (one ∷ []) [] (0 ∷ []) [])
     (null ∷ null ∷ null ∷ x ∷ null ∷ null ∷ []) (null ∷ null ∷ null ∷ null ∷ null ∷ null ∷ []) false 1
 
 -- nothing is refused, and the output is that one scale

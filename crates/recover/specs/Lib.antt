@@ -1,6 +1,5 @@
 pub mod Recover
 pub mod Part
-pub mod Reach
-pub mod Order
 pub mod Contracts
 pub mod Edges
+pub mod inner

@@ -1,114 +1,124 @@
-// Points from placed cameras.
+// Points from placed cameras (`recover_trial_points`). The positions and the weights are read in the work buffer.
 use field::Vec3;
 use field::get3;
+use field::zero;
+use network::Shape;
+use network::Span;
+use network::links::camera_of;
+use network::links::listed_at;
+use network::links::span_of;
 use system::pull;
+use system::reads::point_weight;
+use system::reads::row_weight;
+use system::work::positions_at;
 ghost use mathlib.Core.Path.{_≡_};
-ghost use Prim.Native.Nat.{_+_, _*_, _<_};
-ghost use lib.ListN.{getD};
-ghost use lib.Ieee.{nan};
-ghost use Rattle.field.specs.Vec.{plus, scale};
-ghost use Rattle.field.specs.Buffer.{get, load, vector};
-ghost use Rattle.network.specs.Network.{lent, firstEnd};
-ghost use Rattle.system.specs.System.{pullIn};
-ghost use Rattle.system.specs.Work.{positionsAt, effectiveAt};
-ghost use Rattle.system.specs.Formed.{Ready, Segments};
-ghost use Rattle.recover.specs.Reach.{SightingIn};
-ghost use Rattle.recover.specs.Recover.{sightings, pointOf};
+ghost use Prim.Native.Nat.{_+_, _*_, _<_, _≤_};
+ghost use lib.ListN.{length};
+ghost use Rattle.field.specs.Vec.{at, scale};
+ghost use Rattle.network.specs.Network.{network, links, rows, firstEnd};
+ghost use Rattle.network.specs.inner.Sound.{ShapeSound, EndsSound, ListedSound, LinksSound};
+ghost use Rattle.system.specs.System.{pullSum};
+ghost use Rattle.system.specs.Work.{matrixAt};
+ghost use Rattle.system.specs.inner.Formed.{RowsThere, weightsIn};
+ghost use Rattle.recover.specs.Recover.{pointBy};
+ghost use Rattle.recover.specs.inner.Reads.{positionsIn, sightingIn};
 
-// Camera × effective weight + ray × (weight × scale), of one bearing.
-fn sight(
-    n: usize,
-    m: usize,
-    ends: &[usize],
-    rays: &[f64],
-    weights: &[f64],
-    scales: &[f64],
-    work: &[f64],
-    row: usize,
-) -> Vec3
-    requires { ⌜ SightingIn n m (now ends) (now rays) (now weights) (now scales) (now work) row ⌝ }
-    ensures { λ r. ⌜ r ≡ plus (scale (get vector (now (work .entry)) (positionsAt n + 3 * firstEnd (now (ends .entry)) row)) (getD (now (work .entry)) (effectiveAt n m + row) nan)) (pullIn (now (rays .entry)) (now (weights .entry)) (now (scales .entry)) row) ⌝ }
+// Camera c of the work buffer.
+fn placed_camera(s: Shape, work: &[f64], c: usize) -> Vec3
+    requires { ⌜ ShapeSound s ⌝ }
+    requires { ⌜ (c < s .cameras) × (matrixAt s ≤ length (now work)) ⌝ }
+    ensures { λ v. ⌜ v ≡ at (positionsIn s (now (work .entry))) c ⌝ }
 {
-    let camera = get3(work, 5 * n + 3 * ends[2 * row]);
-    let effective = work[23 * n + 4 * m + row];
-    camera.mul(effective).add(pull(rays, weights, scales, row))
+    get3(work, positions_at(s) + 3 * c)
 }
 
-// The sum of the sightings over the list of point p.
-fn sum_sightings(
-    n: usize,
-    m: usize,
-    b: usize,
-    e: usize,
+// The camera of row r × its effective weight.
+fn weighted_camera(s: Shape, ends: &[usize], work: &[f64], r: usize) -> Vec3
+    requires { ⌜ EndsSound s (now ends) ⌝ }
+    requires { ⌜ (r < rows s) × (matrixAt s ≤ length (now work)) ⌝ }
+    ensures { λ v. ⌜ v ≡ scale (at (positionsIn s (now (work .entry))) (firstEnd (now (ends .entry)) r))
+        (weightsIn s (now (work .entry)) .row r) ⌝ }
+{
+    let camera = placed_camera(s, work, camera_of(s, ends, r));
+    camera.mul(row_weight(s, work, r))
+}
+
+// Camera × effective weight + ray × (weight × scale), of row r.
+fn sight(
+    s: Shape,
     ends: &[usize],
     rays: &[f64],
     weights: &[f64],
     scales: &[f64],
-    points: &[f64],
-    offsets: &[usize],
-    rows: &[usize],
     work: &[f64],
-    p: usize,
+    r: usize,
 ) -> Vec3
-    requires { ⌜ Ready (lent n m b e (now ends) (now rays) (now weights) (now scales) (now points) (now offsets) (now rows)) (now work) ⌝ }
-    requires { ⌜ Segments (lent n m b e (now ends) (now rays) (now weights) (now scales) (now points) (now offsets) (now rows)) (now work) ⌝ }
-    requires { ⌜ p < m ⌝ }
-    ensures { λ r. ⌜ r ≡ sightings (lent n m b e (now (ends .entry)) (now (rays .entry)) (now (weights .entry)) (now (scales .entry)) (now (points .entry)) (now (offsets .entry)) (now (rows .entry))) (load vector (now (work .entry)) (positionsAt n) n) p ⌝ }
+    requires { ⌜ EndsSound s (now ends) ⌝ }
+    requires { ⌜ RowsThere s (now rays) (now weights) (now scales) ⌝ }
+    requires { ⌜ (r < rows s) × (matrixAt s ≤ length (now work)) ⌝ }
+    ensures { λ v. ⌜ v ≡ sightingIn s (now (ends .entry)) (now (rays .entry)) (now (weights .entry)) (now (scales .entry))
+        (now (work .entry)) r ⌝ }
 {
-    let start = offsets[p];
-    let size = offsets[p + 1] - start;
-    let mut sum = Vec3 {
-        x: 0.0,
-        y: 0.0,
-        z: 0.0,
-    };
+    let camera = weighted_camera(s, ends, work, r);
+    camera.add(pull(rays, weights, scales, r))
+}
+
+// The sum of the sightings over the rows at the places k of the lists.
+fn sum_sightings(
+    s: Shape,
+    ends: &[usize],
+    rays: &[f64],
+    weights: &[f64],
+    scales: &[f64],
+    listed: &[usize],
+    work: &[f64],
+    k: Span,
+) -> Vec3
+    requires { ⌜ EndsSound s (now ends) ⌝ }
+    requires { ⌜ ListedSound (s .bearings) (now listed) ⌝ }
+    requires { ⌜ RowsThere s (now rays) (now weights) (now scales) ⌝ }
+    requires { ⌜ (k .first + k .size ≤ s .bearings) × (matrixAt s ≤ length (now work)) ⌝ }
+    ensures { λ v. ⌜ v ≡ pullSum
+        (sightingIn s (now (ends .entry)) (now (rays .entry)) (now (weights .entry)) (now (scales .entry)) (now (work .entry)))
+        (now (listed .entry)) k ⌝ }
+{
+    let first = k.first;
+    let size = k.size;
+    let mut sum = zero();
     let mut i = 0usize;
     while i < size {
-        let v = sight(n, m, ends, rays, weights, scales, work, rows[start + i]);
-        sum = sum.add(v);
+        let r = listed_at(s, listed, first + i);
+        sum = sum.add(sight(s, ends, rays, weights, scales, work, r));
         i += 1;
     }
     sum
 }
 
-// Point p: the old one where its weight is below 1e-12, else the sum of the sightings over the weight.
+// Point p: the old one where its weight is below 1e-12, else the sum of its sightings over the weight.
 pub(crate) fn recover_point(
-    n: usize,
-    m: usize,
-    b: usize,
-    e: usize,
+    s: Shape,
     ends: &[usize],
     rays: &[f64],
     weights: &[f64],
     scales: &[f64],
     points: &[f64],
     offsets: &[usize],
-    rows: &[usize],
+    listed: &[usize],
     work: &[f64],
     p: usize,
 ) -> Vec3
-    requires { ⌜ Ready (lent n m b e (now ends) (now rays) (now weights) (now scales) (now points) (now offsets) (now rows)) (now work) ⌝ }
-    requires { ⌜ Segments (lent n m b e (now ends) (now rays) (now weights) (now scales) (now points) (now offsets) (now rows)) (now work) ⌝ }
-    requires { ⌜ p < m ⌝ }
-    ensures { λ r. ⌜ r ≡ pointOf (lent n m b e (now (ends .entry)) (now (rays .entry)) (now (weights .entry)) (now (scales .entry)) (now (points .entry)) (now (offsets .entry)) (now (rows .entry))) (load vector (now (work .entry)) (positionsAt n) n) p ⌝ }
+    requires { ⌜ LinksSound (links s (now ends) (now offsets) (now listed)) ⌝ }
+    requires { ⌜ RowsThere s (now rays) (now weights) (now scales) ⌝ }
+    requires { ⌜ (p < s .points) × (length (now points) ≡ 3 * s .points) × (matrixAt s ≤ length (now work)) ⌝ }
+    ensures { λ v. ⌜ v ≡ pointBy
+        (network s (now (ends .entry)) (now (rays .entry)) (now (weights .entry)) (now (scales .entry)) (now (points .entry))
+        (now (offsets .entry)) (now (listed .entry)))
+        (weightsIn s (now (work .entry))) (positionsIn s (now (work .entry))) p ⌝ }
 {
-    let w = work[23 * n + p];
+    let w = point_weight(s, work, p);
     if w < 1e-12 {
         return get3(points, 3 * p);
     }
-    sum_sightings(
-        n,
-        m,
-        b,
-        e,
-        ends,
-        rays,
-        weights,
-        scales,
-        points,
-        offsets,
-        rows,
-        work,
-        p,
-    ).div(w)
+    let k = span_of(s, offsets, p);
+    sum_sightings(s, ends, rays, weights, scales, listed, work, k).div(w)
 }

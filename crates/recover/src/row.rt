@@ -1,67 +1,75 @@
-// One row: its baseline, dot and scale answer.
+// One row: its baseline, its dot and its scale answer.
 use crate::Scale;
-use crate::camera;
+use crate::part::position;
 use double::max;
 use field::Vec3;
 use field::get3;
+use network::Shape;
+use network::links::camera_of;
+use network::links::point_of;
+use network::links::target_of;
 ghost use mathlib.Core.Path.{_≡_};
-ghost use mathlib.Core.List.{[]};
-ghost use Prim.Native.Nat.{_+_, _*_, _≤_, _<_};
+ghost use Prim.Native.Nat.{_*_, _≤_, _<_};
 ghost use lib.ListN.{length, set};
-ghost use Rattle.field.specs.Buffer.{get, vector};
-ghost use Rattle.recover.specs.Part.{marked, camerasIn};
-ghost use Rattle.recover.specs.Reach.{sighted, RowIn};
-ghost use Rattle.recover.specs.Recover.{baseline as baselineOf, dotOf, renewal, answer, scaleNumber};
+ghost use Rattle.field.specs.Buffer.{vectorsIn};
+ghost use Rattle.network.specs.Network.{rows};
+ghost use Rattle.network.specs.inner.Sound.{EndsSound};
+ghost use Rattle.recover.specs.Recover.{nearEnd, farEnd, baselineIn, dotIn, renewal, answerIn, scaleNumber};
+ghost use Rattle.recover.specs.inner.Reads.{PositionsThere};
 
-// Camera i of the marked buffer.
-fn position<'a>(current: &'a [f64], trial: &'a [f64], mark: bool, i: usize) -> Vec3
-    requires { ⌜ 3 * i + 3 ≤ length (marked (now current) (now trial) mark) ⌝ }
-    ensures { λ r. ⌜ r ≡ get vector (marked (now (current .entry)) (now (trial .entry)) mark) (3 * i) ⌝ }
+// The camera of a bearing, the source of a direction.
+fn near_end(s: Shape, ends: &[usize], cameras: &[f64], r: usize) -> Vec3
+    requires { ⌜ EndsSound s (now ends) ⌝ }
+    requires { ⌜ (r < rows s) × (length (now cameras) ≡ 3 * s .cameras) ⌝ }
+    ensures { λ v. ⌜ v ≡ nearEnd (now (ends .entry)) (vectorsIn (now (cameras .entry))) r ⌝ }
 {
-    get3(camera(current, trial, mark, i), 0)
+    position(cameras, camera_of(s, ends, r))
+}
+
+// The point of a bearing, the target of a direction.
+fn far_end(s: Shape, ends: &[usize], points: &[f64], cameras: &[f64], r: usize) -> Vec3
+    requires { ⌜ EndsSound s (now ends) ⌝ }
+    requires { ⌜ PositionsThere s (now points) (now cameras) ⌝ }
+    requires { ⌜ r < rows s ⌝ }
+    ensures { λ v. ⌜ v ≡ farEnd s (now (ends .entry)) (now (points .entry)) (vectorsIn (now (cameras .entry))) r ⌝ }
+{
+    if r < s.bearings {
+        return get3(points, 3 * point_of(s, ends, r));
+    }
+    position(cameras, target_of(s, ends, r))
 }
 
 // Point - camera of a bearing, target - source of a direction.
-fn baseline<'a>(
-    b: usize,
-    ends: &[usize],
-    points: &[f64],
-    current: &'a [f64],
-    trial: &'a [f64],
-    mark: bool,
-    row: usize,
-) -> Vec3
-    requires { ⌜ RowIn b (now ends) (now points) (marked (now current) (now trial) mark) row ⌝ }
-    ensures { λ r. ⌜ r ≡ baselineOf (sighted b (now (ends .entry)) [] (now (points .entry))) (camerasIn (marked (now (current .entry)) (now (trial .entry)) mark)) row ⌝ }
+fn baseline(s: Shape, ends: &[usize], points: &[f64], cameras: &[f64], r: usize) -> Vec3
+    requires { ⌜ EndsSound s (now ends) ⌝ }
+    requires { ⌜ PositionsThere s (now points) (now cameras) ⌝ }
+    requires { ⌜ r < rows s ⌝ }
+    ensures { λ v. ⌜ v ≡ baselineIn s (now (ends .entry)) (now (points .entry)) (vectorsIn (now (cameras .entry))) r ⌝ }
 {
-    let a = position(current, trial, mark, ends[2 * row]);
-    let q = ends[2 * row + 1];
-    if row < b {
-        return get3(points, 3 * q).sub(a);
-    }
-    position(current, trial, mark, q).sub(a)
+    let near = near_end(s, ends, cameras, r);
+    far_end(s, ends, points, cameras, r).sub(near)
 }
 
-pub(crate) fn dot_row<'a>(
-    b: usize,
+// The dot of a row with its baseline.
+pub(crate) fn dot_row(
+    s: Shape,
     ends: &[usize],
     rays: &[f64],
     points: &[f64],
-    current: &'a [f64],
-    trial: &'a [f64],
-    mark: bool,
-    row: usize,
+    cameras: &[f64],
+    r: usize,
 ) -> f64
-    requires { ⌜ RowIn b (now ends) (now points) (marked (now current) (now trial) mark) row ⌝ }
-    requires { ⌜ 3 * row + 3 ≤ length (now rays) ⌝ }
-    ensures { λ r. ⌜ r ≡ dotOf (sighted b (now (ends .entry)) (now (rays .entry)) (now (points .entry))) (camerasIn (marked (now (current .entry)) (now (trial .entry)) mark)) row ⌝ }
+    requires { ⌜ EndsSound s (now ends) ⌝ }
+    requires { ⌜ PositionsThere s (now points) (now cameras) ⌝ }
+    requires { ⌜ (r < rows s) × (3 * rows s ≤ length (now rays)) ⌝ }
+    ensures { λ x. ⌜ x ≡ dotIn s (now (ends .entry)) (now (rays .entry)) (now (points .entry)) (vectorsIn (now (cameras .entry))) r ⌝ }
 {
-    get3(rays, 3 * row).dot(baseline(b, ends, points, current, trial, mark, row))
+    get3(rays, 3 * r).dot(baseline(s, ends, points, cameras, r))
 }
 
 // The scale answer of a row with ray v and baseline d.
 fn renew(v: Vec3, d: Vec3) -> Scale
-    ensures { λ r. ⌜ r ≡ renewal v d ⌝ }
+    ensures { λ a. ⌜ a ≡ renewal v d ⌝ }
 {
     let square = d.dot(d);
     if square < 1e-12 {
@@ -71,42 +79,39 @@ fn renew(v: Vec3, d: Vec3) -> Scale
     Scale::Renewed(max(quotient, 1e-5))
 }
 
-// The scale answer of a row; `idle` says that its weight keeps the scale.
-pub(crate) fn decide<'a>(
-    b: usize,
+// The scale answer of a row; `keeps` says whether its weight keeps the scale.
+pub(crate) fn decide(
+    s: Shape,
     ends: &[usize],
     rays: &[f64],
     points: &[f64],
-    current: &'a [f64],
-    trial: &'a [f64],
-    mark: bool,
-    idle: bool,
-    row: usize,
+    cameras: &[f64],
+    keeps: bool,
+    r: usize,
 ) -> Scale
-    requires { ⌜ RowIn b (now ends) (now points) (marked (now current) (now trial) mark) row ⌝ }
-    requires { ⌜ 3 * row + 3 ≤ length (now rays) ⌝ }
-    ensures { λ r. ⌜ r ≡ answer idle (sighted b (now (ends .entry)) (now (rays .entry)) (now (points .entry))) (camerasIn (marked (now (current .entry)) (now (trial .entry)) mark)) row ⌝ }
+    requires { ⌜ EndsSound s (now ends) ⌝ }
+    requires { ⌜ PositionsThere s (now points) (now cameras) ⌝ }
+    requires { ⌜ (r < rows s) × (3 * rows s ≤ length (now rays)) ⌝ }
+    ensures { λ a. ⌜ a ≡ answerIn keeps s (now (ends .entry)) (now (rays .entry)) (now (points .entry))
+        (vectorsIn (now (cameras .entry))) r ⌝ }
 {
-    if idle {
+    if keeps {
         return Scale::Kept;
     }
-    renew(
-        get3(rays, 3 * row),
-        baseline(b, ends, points, current, trial, mark, row),
-    )
+    renew(get3(rays, 3 * r), baseline(s, ends, points, cameras, r))
 }
 
 // A row's scale is stored: the old one, or the number that renews it.
-pub(crate) fn keep(out: &mut [f64], row: usize, old: f64, scale: Scale)
-    requires { ⌜ row < length (now out) ⌝ }
-    ensures { λ r. ⌜ now (out .exit) ≡ set (now (out .entry)) row (scaleNumber old scale) ⌝ }
+pub(crate) fn put_scale(out: &mut [f64], r: usize, old: f64, scale: Scale)
+    requires { ⌜ r < length (now out) ⌝ }
+    ensures { λ x. ⌜ now (out .exit) ≡ set (now (out .entry)) r (scaleNumber old scale) ⌝ }
 {
     match scale {
         Scale::Kept => {
-            out[row] = old;
+            out[r] = old;
         }
         Scale::Renewed(x) => {
-            out[row] = x;
+            out[r] = x;
         }
     }
 }
