@@ -175,14 +175,6 @@ pub shared-read : (s : Shape) (l : List Float) (r q : ℕ) (e1 e2 t : Float) →
     shared e1 e2 t ≡ shared (weightsIn s l .row r) (weightsIn s l .row q) t
 shared-read s l r q e1 e2 t f g = rw (← f, ← g)
 
-module _ (s : Shape) (ends listed : List ℕ) (a d : ℕ) (t : Float) (k : Span) where
-  -- the bearing at place i, once it is read
-  pub place-coupled : (l w : List Float) (i r : ℕ) → r ≡ getD listed (k .first + i) 0 →
-      w ≡ matrixChanged s d (times (withStep a d ends listed t r (placesAfter k i)) (k .size - (i + 1))) l →
-      w ≡ matrixChanged s d (placeStep a d ends listed t k i) l
-  unfolding placeStep
-  place-coupled l w i r er e = rw er at e
-
 module _ (s : Shape) (ends offsets listed : List ℕ) (a d p : ℕ) (l : List Float) (t : Float) (et : t ≡ weightsIn s l .point p) where
   pub point-skipped : lt t tiny ≡ true → l ≡ matrixChanged s d (pointStep a d (links s ends offsets listed) p) l
   unfolding matrixChanged pointStep
@@ -211,10 +203,13 @@ module _ (s : Shape) (a d : ℕ) (l : List Float) (room : workEnd s d ≤ length
   with-more ends listed t r q k j S hr hk hj eq e g =
       changes-more s d l room (withStep a d ends listed t r k) j m w (λ i b. local-with s a d ends listed S t r k i hr hk (omega arith)) e (rw eq at g)
 
-  pub places-more : (ends listed : List ℕ) (t : Float) (k : Span) (i : ℕ) → ListedSound (s .bearings) listed → k .first + k .size ≤ s .bearings → i < k .size →
-      m ≡ matrixChanged s d (times (placeStep a d ends listed t k) i) l → w ≡ matrixChanged s d (placeStep a d ends listed t k i) m →
+  pub places-more : (ends listed : List ℕ) (t : Float) (k : Span) (i r : ℕ) → ListedSound (s .bearings) listed → k .first + k .size ≤ s .bearings → i < k .size →
+      r ≡ getD listed (k .first + i) 0 → m ≡ matrixChanged s d (times (placeStep a d ends listed t k) i) l →
+      w ≡ matrixChanged s d (times (withStep a d ends listed t r (placesAfter k i)) (k .size - (i + 1))) m →
       w ≡ matrixChanged s d (times (placeStep a d ends listed t k) (i + 1)) l
-  places-more ends listed t k i S hk hi = changes-more s d l room (placeStep a d ends listed t k) i m w (λ j b. local-place s a d ends listed S t k j hk (omega arith))
+  unfolding placeStep
+  places-more ends listed t k i r S hk hi er e g =
+      changes-more s d l room (placeStep a d ends listed t k) i m w (λ j b. local-place s a d ends listed S t k j hk (omega arith)) e (rw er at g)
 
   pub points-more : (ends offsets listed : List ℕ) (p : ℕ) → LinksSound (links s ends offsets listed) → p < s .points →
       m ≡ matrixChanged s d (times (pointStep a d (links s ends offsets listed)) p) l →

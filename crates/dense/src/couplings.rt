@@ -12,7 +12,7 @@ ghost use mathlib.Core.Path.{_≡_};
 ghost use Prim.Native.Nat.{_+_, _<_, _≤_};
 ghost use lib.ListN.{length};
 ghost use Rattle.network.specs.Network.{links};
-ghost use Rattle.network.specs.inner.Sound.{ShapeSound, EndsSound, OffsetsSound, ListedSound, LinksSound};
+ghost use Rattle.network.specs.inner.Sound.{ShapeSound, EndsSound, ListedSound, LinksSound};
 ghost use Rattle.system.specs.Work.{matrixAt};
 ghost use Rattle.system.specs.inner.Formed.{weightsIn};
 ghost use Rattle.dense.specs.Matrix.{shared as sharedOf, times, pairStep, withStep, placeStep, pointStep, directionStep, couplings};
@@ -78,35 +78,7 @@ fn couple_with(
     }
 }
 
-// The bearing at place i of the places k with each after it.
-fn couple_place(
-    s: Shape,
-    ends: &[usize],
-    listed: &[usize],
-    anchor: usize,
-    d: usize,
-    work: &mut [f64],
-    w: f64,
-    k: Span,
-    i: usize,
-)
-    requires { ⌜ EndsSound s (now ends) ⌝ }
-    requires { ⌜ ListedSound (s .bearings) (now listed) ⌝ }
-    requires { ⌜ DenseRoom s d (length (now work)) ⌝ }
-    requires { ⌜ (anchor < s .cameras) × (i < k .size) × (k .first + k .size ≤ s .bearings) ⌝ }
-    ensures { λ x. ⌜ now (work .exit) ≡ matrixChanged s d
-        (placeStep anchor d (now (ends .entry)) (now (listed .entry)) w k i) (now (work .entry)) ⌝ }
-{
-    let place = k.first + i;
-    let r = listed_at(s, listed, place);
-    let after = Span {
-        first: place + 1,
-        size: k.size - (i + 1),
-    };
-    couple_with(s, ends, listed, anchor, d, work, w, r, after);
-}
-
-// A point of weight w whose list has the places k, pair by pair in list order.
+// A point of weight w whose list has the places k, pair by pair in list order: each bearing with those after it.
 fn couple_places(
     s: Shape,
     ends: &[usize],
@@ -124,10 +96,17 @@ fn couple_places(
     ensures { λ x. ⌜ now (work .exit) ≡ matrixChanged s d
         (times (placeStep anchor d (now (ends .entry)) (now (listed .entry)) w k) (k .size)) (now (work .entry)) ⌝ }
 {
+    let first = k.first;
     let size = k.size;
     let mut i = 0usize;
     while i < size {
-        couple_place(s, ends, listed, anchor, d, work, w, k, i);
+        let place = first + i;
+        let r = listed_at(s, listed, place);
+        let after = Span {
+            first: place + 1,
+            size: size - (i + 1),
+        };
+        couple_with(s, ends, listed, anchor, d, work, w, r, after);
         i += 1;
     }
 }

@@ -11,10 +11,12 @@ use Rattle.dense.proofs.couplings.couple_places.Statement.{statement}
 use Rattle.dense.proofs.couplings.couple_places.Tie as tie
 
 abbrev Inv-loop : tie.InvT-loop
-Inv-loop s ends listed anchor d work₀ w k size i₀ work i = (i ≤ size) × (work ≡ matrixChanged s d (times (placeStep anchor d ends listed w k) i) work₀) × (length work ≡ length work₀)
+Inv-loop s ends listed anchor d work₀ w first size i₀ work i =
+    (i ≤ size) × (work ≡ matrixChanged s d (times (placeStep anchor d ends listed w (record { first = first; size = size })) i) work₀)
+    × (length work ≡ length work₀)
 
 abbrev μ-loop : tie.MeasureT-loop
-μ-loop s ends listed anchor d work₀ w k size i₀ work i = size - i
+μ-loop s ends listed anchor d work₀ w first size i₀ work i = size - i
 
 pub couple-places-spec : {M : Type 1} → statement M
 couple-places-spec =
@@ -23,7 +25,12 @@ couple-places-spec =
     Inv-loop
     μ-loop
     (λ c. (omega arith, search changes-none, refl))
-    (λ c κs. (search needs, (search needs, omega arith)))
+    (λ c. omega arith)
+    (λ c κs. (search needs, omega arith))
+    (λ c. omega arith)
+    (λ c. omega arith)
+    (λ c. omega arith)
+    (λ c κs. (search needs, (search needs, (omega arith, omega arith))))
     (λ c. omega arith)
     (λ c. omega arith)
     (λ c. (omega arith, search places-more, omega arith))
