@@ -84,8 +84,26 @@ fn move_along(
     let active = r.active;
     let old = r.old;
     let alpha = quotient(old, curvature);
-    step_field(s, work, anchor, true, active, alpha, positions_at(s), search_at(s));
-    let sums = step_field(s, work, anchor, false, active, alpha, residual_at(s), applied_at(s));
+    step_field(
+        s,
+        work,
+        anchor,
+        true,
+        active,
+        alpha,
+        positions_at(s),
+        search_at(s),
+    );
+    let sums = step_field(
+        s,
+        work,
+        anchor,
+        false,
+        active,
+        alpha,
+        residual_at(s),
+        applied_at(s),
+    );
     Round {
         old: old,
         active: stay_active(bound, active, sums),
@@ -176,10 +194,11 @@ fn rounds(
     let mut k = 0usize;
     while k < most {
         let x = round(s, ends, offsets, listed, work, anchor, bound, r);
-        let Step::Running(t) = x else {
-            return x;
-        };
-        r = t;
+        match x {
+            Step::Failed(_, _) => return x,
+            Step::Ended(_) => return x,
+            Step::Running(t) => r = t,
+        }
         k += 1;
     }
     Step::Running(r)
