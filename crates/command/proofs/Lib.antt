@@ -1,4 +1,5 @@
 pub mod Printing
 pub mod Counting
 pub mod Passing
+pub mod Placed
 pub mod Outcomes

@@ -1,142 +1,92 @@
--- A content that passes the reader's tests passes those of the point lists, the parts and the solve. Assumes nothing.
-use Prim.Native.Nat.{ℕ, _+_, _-_, _*_, _≤_}
-use mathlib.Core.Path.{_≡_, refl, sym, ap, ap₂, _∙_}
-use mathlib.Core.Bool.{Bool, true, false, cond, not, _&&_}
-use mathlib.Core.List.{List, []}
+-- A content that passes the reader's tests passes those of the point lists and of the parts. Assumes nothing.
+use Prim.Native.Nat.{ℕ, _+_, _*_, _≤_}
+use mathlib.Core.Path.{_≡_, refl, sym, ap₂, _∙_}
+use mathlib.Core.Bool.{Bool, true, _&&_}
+use mathlib.Core.List.{List, [], _++_}
 use native.Mathlib.Omega.{arith}
-use native.Mathlib.Nat.{mul-le-mul}
 use lib.ListN.{length}
-use lib.Dec.{eqb, ltb}
-use borrow.Author.Tests.{ltb-false, le-leb, lt-leb, eq-eqb}
-use Rattle.field.specs.declared.Place.the-variants.{Nowhere}
+use lib.Ieee.{Float}
+use borrow.Author.Tests.{le-leb, lt-leb, eq-eqb}
+use Rattle.double.proofs.Truth.{both-true}
 use Rattle.field.specs.Count.{lowest}
+use Rattle.field.specs.declared.Place.the-variants.{Nowhere}
 use Rattle.field.proofs.Counting.{lowest-none}
+use Rattle.network.specs.declared.Shape.{Shape}
 use Rattle.network.specs.declared.Verdict.{Verdict}
 use Rattle.network.specs.declared.Verdict.the-variants.{Passed}
-use Rattle.network.specs.Network.{rows}
-use Rattle.network.specs.declared.Shape.{Shape}
-use Rattle.network.specs.Refusals.{test, testAt, andThen, verdict, running, countTests, endsFit, raysFit, pointsFit, networkFits, endTests, badWeight, badRoute, denseRows, workLength, graphTests, stepTests}
-use Rattle.network.specs.Sound.{EndsSound}
-use Rattle.network.proofs.Verdicts.{both-true, then-passed, passed-first, test-at-passed, graph-verdict, step-verdict, solve-verdict}
-use Rattle.network.proofs.Sections.{running-passed}
-use Rattle.network.proofs.Sound.{counts-sound, ends-sound, row-domain}
-use Rattle.lists.specs.Listed.{roomFits, pastPoints, listVerdict}
-use Rattle.placement.specs.Routes.{submission, buffersFit, submissionVerdict, placement, routed}
-use Rattle.layout.specs.Image.{Content, Lengths}
-use Rattle.image.specs.Tests.{contentFits, contentSections, rowTests}
-use Rattle.image.proofs.Domain.{rows-verdict}
-use Rattle.image.proofs.Passing.{content-verdict, test-three, fit-lengths}
-use Rattle.command.specs.Command.{graphOf, networkOf, PointLists}
-use Rattle.command.specs.Inner.{Ready}
+use Rattle.network.specs.Network.{graph, rows}
+use Rattle.network.specs.Refusals.{test, verdict, endsFit, raysFit, vectorsFit, contentFits, lengthTests, endTests, weightTests, badWeight, graphRowTests}
+use Rattle.network.specs.inner.Sound.{ContentLengths, EndsSound}
+use Rattle.network.proofs.Verdicts.{verdict-one, passed-test-at, both-passed, passes-in}
+use Rattle.network.proofs.Sound.{counts-sound, content-fits, ends-sound, row-domain, domain-sound}
+use Rattle.lists.specs.PointLists.{lengthsFit, pastPoints, pointListsTests, PointListsCall}
+use Rattle.lists.proofs.Holding.{call-holds}
+use Rattle.lists.proofs.Entries.{lists-passed}
+use Rattle.lists.proofs.Sorting.{offsets-table, listed-placed}
+use Rattle.layout.specs.Image.{content}
+use Rattle.command.specs.Command.{PointLists}
+use Rattle.command.specs.inner.Steps.{ContentSound, GraphPassed}
 
--- tests of which each passes
-pub passes : {u v : Verdict} → u ≡ Passed → v ≡ Passed → andThen u v ≡ Passed
-passes {v = v} e f = passed-first v e ∙ f
+pub fits : {fit : Bool} → fit ≡ true → verdict (lengthTests fit) ≡ Passed
+unfolding lengthTests test
+fits e = rw e (verdict-one Passed)
 
-found-nothing : (k : ℕ) {p : _} → p ≡ Nowhere → testAt k p ≡ Passed
-unfolding testAt
-found-nothing k e = rw e
+-- tests that pass leave the verdict to those after them
+pub skipped : (us vs : List Verdict) → verdict us ≡ Passed → verdict (us ++ vs) ≡ verdict vs
+skipped us vs h = sym (passes-in us vs refl h refl)
 
-pub holds : (k : ℕ) {b : Bool} → b ≡ true → test k (not b) ≡ Passed
-unfolding test
-holds k e = rw e
-
-same : (n : ℕ) → eqb n n ≡ true
-same n = eq-eqb n n refl
-
--- at most 48 rows are dense
-dense-rows : (n : ℕ) → denseRows n 3 48 ≤ 48
-unfolding denseRows badRoute
-dense-rows n = go (ltb 48 (n - 1)) refl
-  where
-    go : (b : Bool) → ltb 48 (n - 1) ≡ b → cond b 0 (n - 1) ≤ 48
-    go true e = omega arith
-    go false e = ltb-false 48 (n - 1) e
-
-work-enough : (s : Shape) → s .cameras ≤ 64 → s .points ≤ 680 → rows s ≤ 340 → workLength s 3 48 ≤ 6980
-unfolding workLength
-work-enough s h k l =
-    let d = dense-rows (s .cameras) in
-    let q : denseRows (s .cameras) 3 48 * denseRows (s .cameras) 3 48 ≤ 48 * 48 = mul-le-mul d d in
-    omega arith
-
-pub lengths-fit : (c : Content) → Lengths (rows (c .shape)) (c .shape .points) (c .ends) (c .rays) (c .weights) (c .scales) (c .positions) → contentFits c ≡ true
-unfolding contentFits endsFit raysFit
-lengths-fit c l =
+pub lengths-fit : (s : Shape) (es : List ℕ) (rs ws ss ps : List Float) → ContentLengths s es rs ws ss ps → contentFits s es rs ws ss ps ≡ true
+unfolding contentFits endsFit raysFit vectorsFit
+lengths-fit s es rs ws ss ps l =
     ap₂ _&&_
-    (ap₂ _&&_ (eq-eqb _ _ (l .ends)) (eq-eqb _ _ (l .weights)))
-    (ap₂ _&&_ (ap₂ _&&_ (eq-eqb _ _ (l .rays)) (eq-eqb _ _ (l .scales))) (eq-eqb _ _ (l .positions)))
+    (ap₂ _&&_ (eq-eqb _ _ (l .ends)) (eq-eqb _ _ (l .domain .weights)))
+    (ap₂ _&&_ (ap₂ _&&_ (eq-eqb _ _ (l .domain .rays)) (eq-eqb _ _ (l .domain .scales))) (eq-eqb _ _ (l .domain .positions)))
 
-module _ (c : Content) (ready : Ready c) where
-  parted : (verdict (countTests (c .shape)) ≡ Passed) × (contentFits c ≡ true) × (verdict (rowTests c) ≡ Passed)
-  parted =
-      let a = then-passed _ _ (sym (content-verdict c (contentFits c)) ∙ ready .tests) in
-      let b = then-passed _ _ (a .1) in
-      (a .0, test-three (contentFits c) (b .0), b .1)
-
-  rowed : (verdict (endTests (c .shape) (c .ends)) ≡ Passed) × (running (contentSections c) ≡ Nowhere)
-  rowed = let a = then-passed _ _ (sym (rows-verdict c) ∙ parted .2) in (a .0, test-at-passed 7 _ (a .1))
-
-  pub ready-lengths : Lengths (rows (c .shape)) (c .shape .points) (c .ends) (c .rays) (c .weights) (c .scales) (c .positions)
-  ready-lengths = fit-lengths c (parted .1)
-
-  ends-fit : endsFit (rows (c .shape)) (c .ends) (c .weights) ≡ true
-  unfolding contentFits
-  ends-fit = both-true _ _ (parted .1) .0
-
-  rays-fit : raysFit (rows (c .shape)) (c .rays) (c .scales) ≡ true
-  unfolding raysFit
-  rays-fit = let l = ready-lengths in ap₂ _&&_ (eq-eqb _ _ (l .rays)) (eq-eqb _ _ (l .scales))
-
-  ends-ready : EndsSound (graphOf c)
-  ends-ready = ends-sound (c .shape) (c .ends) (c .weights) (counts-sound _ (parted .0)) ends-fit (rowed .0)
-
+module _ (s : Shape) (es : List ℕ) (rs ws ss ps : List Float) (C : ContentSound (content s es rs ws ss ps)) where
   -- ---- the parts
 
-  weights-ready : lowest (badWeight (c .weights)) (rows (c .shape)) ≡ Nowhere
-  weights-ready = lowest-none _ _ (λ k h. row-domain (c .weights) (c .scales) (c .rays) k (running-passed _ _ _ (rowed .1) .0 k h) .0)
+  ends-fit : endsFit (rows s) es ws ≡ true
+  unfolding contentFits
+  ends-fit = both-true _ _ (C .fit) .0
 
-  pub graph-ready : verdict (graphTests (graphOf c) true) ≡ Passed
-  graph-ready = graph-verdict (graphOf c) true ∙ passes (parted .0) (passes (holds 3 (ap (λ t. t && true) ends-fit)) (passes (rowed .0) (found-nothing 7 weights-ready)))
+  weights-passed : verdict (weightTests s ws) ≡ Passed
+  unfolding weightTests
+  weights-passed =
+      let d = domain-sound s rs ws ss ps [] (C .domain) in
+      verdict-one _ ∙ passed-test-at 7 (lowest-none (badWeight ws) (rows s) (λ k h. row-domain ws ss rs k (d .0 k h) .0))
+
+  pub graph-passed : GraphPassed (graph s es ws)
+  unfolding graphRowTests
+  graph-passed = record { counts = C .counts; fit = ends-fit; rows = both-passed (endTests s es) _ (C .ends) weights-passed }
 
   -- ---- the point lists
 
-  past-none : lowest (pastPoints (c .shape .points) (c .ends)) (c .shape .bearings) ≡ Nowhere
+  pub ends-passed : EndsSound s es
+  ends-passed = ends-sound s es (counts-sound s (C .counts)) (content-fits s es rs ws ss ps (C .fit) .ends) (C .ends)
+
+module _ (s : Shape) (es : List ℕ) (E : EndsSound s es) where
+  past-none : lowest (pastPoints (s .points) es) (s .bearings) ≡ Nowhere
   unfolding pastPoints
-  past-none = lowest-none _ _ (λ k h. lt-leb _ _ (ends-ready .point k h))
+  past-none = lowest-none _ _ (λ k h. lt-leb _ _ (E .point k h))
 
-  pub lists-ready : listVerdict (c .shape .points) (c .shape .bearings) (c .ends) (c .shape .points + 1) (c .shape .bearings) ≡ Passed
-  unfolding listVerdict roomFits
-  lists-ready =
-      let l = ready-lengths .ends in
-      let room : 2 * c .shape .bearings ≤ length (c .ends) = omega arith in
-      passes (holds 3 (ap₂ _&&_ (le-leb _ _ room) (ap₂ _&&_ (same (c .shape .points + 1)) (same (c .shape .bearings))))) (found-nothing 4 past-none)
+  module _ (offsets listed offsets' listed' : List ℕ) (answer : Verdict) (call : PointListsCall (s .points) (s .bearings) es offsets listed answer offsets' listed')
+      (sizes : (length offsets ≡ s .points + 1) × (length listed ≡ s .bearings)) where
+    list-passed : verdict (pointListsTests (s .points) (s .bearings) es (length offsets) (length listed)) ≡ Passed
+    unfolding pointListsTests lengthsFit
+    list-passed =
+        let size = E .size in
+        let room : 2 * s .bearings ≤ length es = omega arith in
+        both-passed (lengthTests _) _
+        (fits (ap₂ _&&_ (le-leb _ _ room) (ap₂ _&&_ (eq-eqb _ _ (sizes .0)) (eq-eqb _ _ (sizes .1)))))
+        (verdict-one _ ∙ passed-test-at 4 past-none)
 
-  -- ---- the solve
-
-  module _ (offsets listed : List ℕ) (lists : PointLists c offsets listed) where
-    network-fit : networkFits (networkOf c offsets listed) ≡ true
-    unfolding pointsFit
-    network-fit =
-        ap₂ _&&_ ends-fit (ap₂ _&&_ rays-fit
-        (ap₂ _&&_ (eq-eqb _ _ (ready-lengths .positions)) (ap₂ _&&_ (eq-eqb _ _ (lists .offsetCount)) (eq-eqb _ _ (lists .listedCount)))))
-
-    buffers-fit : buffersFit (c .shape) 3 48 6980 (3 * c .shape .cameras) (3 * c .shape .points) ≡ true
-    unfolding buffersFit
-    buffers-fit =
-        ap₂ _&&_ (same (3 * c .shape .cameras)) (ap₂ _&&_ (same (3 * c .shape .points)) (le-leb _ _ (work-enough (c .shape) (ready .cameras) (ready .points) (ready .rows))))
-
-    step-ready : (fit : Bool) → fit ≡ true → verdict (stepTests (networkOf c offsets listed) [] fit) ≡ Passed
-    step-ready fit e =
-        step-verdict (networkOf c offsets listed) [] fit
-        ∙ passes (parted .0) (passes (holds 3 (ap₂ _&&_ network-fit e)) (passes (rowed .0) (passes (holds 6 (lists .rule)) (found-nothing 7 (rowed .1)))))
-
-    submission-ready : submissionVerdict (submission (networkOf c offsets listed) 3 48 6980 (3 * c .shape .cameras) (3 * c .shape .points)) ≡ Passed
-    unfolding submissionVerdict test badRoute
-    submission-ready = solve-verdict (networkOf c offsets listed) _ 3 48 ∙ passes (step-ready _ buffers-fit) refl
-
-    -- 1 to 8 refuse nothing
-    pub solve-ready : {w k p : ℕ} → w ≡ 6980 → k ≡ 3 * c .shape .cameras → p ≡ 3 * c .shape .points →
-        placement (submission (networkOf c offsets listed) 3 48 w k p) ≡ routed (networkOf c offsets listed) 3 48
-    unfolding placement
-    solve-ready e f g = rw (e, f, g, submission-ready)
+    pub lists-built : PointLists s es offsets' listed'
+    lists-built =
+        let a : answer ≡ Passed = call .answered ∙ list-passed in
+        let passed = rw a at call in
+        let R = lists-passed (length offsets) (length listed) (call .answered) a .0 in
+        record {
+          rule = call-holds (s .points) (s .bearings) es offsets listed offsets' listed' passed;
+          offsetCount = rw (passed .offsetsOut) (offsets-table es (s .bearings) (s .points) .size);
+          listedCount = rw (passed .listedOut) (listed-placed R .size);
+        }

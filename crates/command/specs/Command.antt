@@ -5,11 +5,12 @@ use mathlib.Core.Bool.{Bool, true}
 use mathlib.Core.List.{List, [], _∷_, _++_}
 use lib.ListN.{length}
 use lib.Dec.{ltb}
+use Rattle.field.specs.declared.Vec3.{Vec3}
 use Rattle.network.specs.declared.Refusal.{Refusal}
 use Rattle.network.specs.declared.Verdict.{Verdict}
 use Rattle.network.specs.declared.Verdict.the-variants as tested
-use Rattle.network.specs.Network.{Graph, graph, Network, network}
 use Rattle.network.specs.declared.Shape.{Shape}
+use Rattle.network.specs.Network.{Graph, graph, Network, network}
 use Rattle.network.specs.Lists.{listsHold}
 use Rattle.network.specs.Refusals.{test, verdict}
 use Rattle.graph.specs.Outcome.{Labelled}
@@ -17,6 +18,7 @@ use Rattle.graph.specs.Distinct.{distinct}
 use Rattle.recover.specs.Recover.{pointsOf}
 use Rattle.placement.specs.declared.Answer.{Answer}
 use Rattle.placement.specs.declared.Answer.the-variants.{Refused}
+use Rattle.placement.specs.declared.Report.{Report}
 use Rattle.placement.specs.Routes.{Placement, rejected, failing, placed, routed}
 use Rattle.placement.specs.Solved.{answerOf}
 use Rattle.layout.specs.Image.{Content}
@@ -41,7 +43,10 @@ tooMany s = ltb 64 (s .cameras)
 -- Nor does 2 of the counts, after 22: what is over those limits does not fit into 16,384 bytes.
 unfoldable pub programTests : List ℕ → List Verdict
 programTests bytes =
-    (test 2 (tooLong bytes) ∷ []) ++ (countsTests bytes ++ ((test 1 (tooMany (shapeAt 36 bytes)) ∷ []) ++ rowTests (contentOf bytes)))
+    (test 2 (tooLong bytes) ∷ [])
+    ++ (countsTests bytes
+    ++ ((test 1 (tooMany (shapeAt 36 bytes)) ∷ [])
+    ++ rowTests (contentOf bytes)))
 
 -- the line of a refusal
 abbrev pub refusedLine : Refusal → List ℕ
@@ -54,31 +59,34 @@ graphOf c = graph (c .shape) (c .ends) (c .weights)
 
 -- a content with its point lists
 abbrev pub networkOf : Content → List ℕ → List ℕ → Network
-networkOf c offsets listed = network (graphOf c) (c .rays) (c .scales) (c .positions) offsets listed
+networkOf c offsets listed = network (c .shape) (c .ends) (c .rays) (c .weights) (c .scales) (c .positions) offsets listed
 
 -- 'uses route 3 with dense limit 48'
 abbrev pub ending : Network → Placement
 ending net = routed net 3 48
 
--- 'Lines: counts; number of parts; the report; each camera, then each point'. 'A refusal prints only' its line.
+-- 'Lines: counts; number of parts; the report; each camera, then each point'
+abbrev pub placedLines : Shape → (parts : ℕ) → Report → (cameras points : List Vec3) → List ℕ
+placedLines s parts p cameras points =
+    placedText (s .cameras) (s .points) (s .bearings) (s .directions) parts (p .anchor) (p .route) (p .rounds) cameras points
+
+-- 'A refusal prints only' its line.
 abbrev pub lines : Network → (parts : ℕ) → Placement → List ℕ
 lines net parts (rejected r) = refusedLine r
 lines net parts (failing r) = refusedLine r
-lines net parts (placed p cameras) =
-    let s = net .graph .shape in
-    placedText (s .cameras) (s .points) (s .bearings) (s .directions) parts (p .anchor) (p .route) (p .rounds) cameras (pointsOf net cameras)
+lines net parts (placed p cameras) = placedLines (net .shape) parts p cameras (pointsOf net cameras)
 
 -- 'builds the point lists': those that keep the rule, m + 1 offsets and B row numbers. No others do.
-pub record PointLists (c : Content) (offsets listed : List ℕ) : Type 0 where
-  pub rule : listsHold (c .shape .points) (c .shape .bearings) (c .ends) offsets listed ≡ true
-  pub offsetCount : length offsets ≡ c .shape .points + 1
-  pub listedCount : length listed ≡ c .shape .bearings
+pub record PointLists (s : Shape) (ends offsets listed : List ℕ) : Type 0 where
+  pub rule : listsHold (s .points) (s .bearings) ends offsets listed ≡ true
+  pub offsetCount : length offsets ≡ s .points + 1
+  pub listedCount : length listed ≡ s .bearings
 
 -- An image that no test refuses, with the content c: the answer and the text. The point lists and the labels are fixed by c.
 pub record Solved (c : Content) (answer : Answer) (text : List ℕ) : Type 0 where
   pub offsets : List ℕ
   pub listed : List ℕ
-  pub lists : PointLists c offsets listed
+  pub lists : PointLists (c .shape) (c .ends) offsets listed
   pub labels : List ℕ
   pub labelled : Labelled (graphOf c) labels
   pub answered : answer ≡ answerOf (ending (networkOf c offsets listed))
@@ -91,8 +99,9 @@ pub record Outcome (bytes : List ℕ) (answer : Answer) (text : List ℕ) : Type
   pub refused : (r : Refusal) → verdict (programTests bytes) ≡ tested.Refused r → (answer ≡ Refused r) × (text ≡ refusedLine r)
   pub passed : verdict (programTests bytes) ≡ tested.Passed → Solved (contentOf bytes) answer text
 
--- The answer and some text are such that P holds of them. The text stands at the front of the buffer, all of it, and every byte after it is as it was.
-pub record Prints (P : Answer → List ℕ → Type 0) (r : Printed) (buffer buffer′ : List ℕ) : Type 0 where
+-- The answer and some text are such that P holds of them.
+-- The text stands at the front of the buffer, all of it, and every byte after it is as it was.
+pub record Prints (P : Answer → List ℕ → Type 0) (r : Printed) (buffer buffer' : List ℕ) : Type 0 where
   pub text : List ℕ
-  pub put : Put buffer buffer′ 0 text 65536 (r .length)
+  pub put : Put buffer buffer' 0 text 65536 (r .length)
   pub holds : P (r .answer) text

@@ -1,2 +1,2 @@
 pub mod Command
-pub mod Inner
+pub mod inner

@@ -1,21 +1,20 @@
 // What is printed.
 use crate::Printed;
 use network::Refusal;
+use network::Shape;
 use placement::Answer;
 use placement::Report;
+use text::Counts;
 use text::put_placed;
 use text::put_refused;
-ghost use mathlib.Core.Path.{_≡_};
-ghost use Prim.Native.Nat.{_*_, _≤_};
+ghost use Prim.Native.Nat.{_≤_};
 ghost use lib.ListN.{length};
-ghost use Rattle.text.specs.Text.{placedText};
-ghost use Rattle.text.specs.Lent.{vectorsOf};
+ghost use Rattle.placement.specs.declared.Answer.the-variants.{Accepted};
 ghost use Rattle.command.specs.Command.{Prints};
-ghost use Rattle.command.specs.Inner.{RefusedAs, AcceptedAs};
+ghost use Rattle.command.specs.inner.Steps.{RefusedAs, AnsweredAs};
 
 // A refusal.
-pub fn refuse(refusal: Refusal, text: &mut [u8]) -> Printed
-    requires { ⌜ length (now text) ≡ 65536 ⌝ }
+pub fn refuse(refusal: Refusal, text: &mut [u8; 65536]) -> Printed
     ensures { λ r. ⌜ Prints (RefusedAs refusal) r (now (text .entry)) (now (text .exit)) ⌝ }
 {
     let length = put_refused(refusal.number, refusal.place, text);
@@ -26,36 +25,51 @@ pub fn refuse(refusal: Refusal, text: &mut [u8]) -> Printed
 }
 
 // A report, with the cameras and points.
-pub fn accept(
-    n: usize,
-    m: usize,
-    b: usize,
-    e: usize,
+fn accept(
+    s: Shape,
     parts: usize,
     report: Report,
     cameras: &[f64],
     points: &[f64],
-    text: &mut [u8],
+    text: &mut [u8; 65536],
 ) -> Printed
-    requires { ⌜ length (now text) ≡ 65536 ⌝ }
     requires { ⌜ (length (now cameras) ≤ 192) × (length (now points) ≤ 2040) ⌝ }
-    ensures { λ r. ⌜ Prints (AcceptedAs report (placedText n m b e parts (report .anchor) (report .route) (report .rounds) (vectorsOf (now (cameras .entry))) (vectorsOf (now (points .entry))))) r (now (text .entry)) (now (text .exit)) ⌝ }
+    ensures { λ r. ⌜ Prints (AnsweredAs s parts (Accepted report) (now (cameras .entry)) (now (points .entry))) r
+        (now (text .entry)) (now (text .exit)) ⌝ }
 {
-    let length = put_placed(
-        n,
-        m,
-        b,
-        e,
-        parts,
-        report.anchor,
-        report.route,
-        report.rounds,
-        cameras,
-        points,
-        text,
-    );
+    let counts = Counts {
+        cameras: s.cameras,
+        points: s.points,
+        bearings: s.bearings,
+        directions: s.directions,
+    };
+    let line = text::Report {
+        anchor: report.anchor,
+        route: report.route,
+        rounds: report.rounds,
+    };
+    let length = put_placed(counts, parts, line, cameras, points, text);
     Printed {
         answer: Answer::Accepted(report),
         length,
+    }
+}
+
+// An answer.
+pub fn print(
+    s: Shape,
+    parts: usize,
+    answer: Answer,
+    cameras: &[f64],
+    points: &[f64],
+    text: &mut [u8; 65536],
+) -> Printed
+    requires { ⌜ (length (now cameras) ≤ 192) × (length (now points) ≤ 2040) ⌝ }
+    ensures { λ r. ⌜ Prints (AnsweredAs s parts answer (now (cameras .entry)) (now (points .entry))) r
+        (now (text .entry)) (now (text .exit)) ⌝ }
+{
+    match answer {
+        Answer::Refused(r) => refuse(r, text),
+        Answer::Accepted(report) => accept(s, parts, report, cameras, points, text),
     }
 }

@@ -6,78 +6,74 @@ use image::Counted;
 use image::counts;
 use image::read;
 use network::Refusal;
-ghost use mathlib.Core.Path.{_≡_};
-ghost use Prim.Native.Nat.{_+_, _≤_};
+use network::Shape;
+ghost use Prim.Native.Nat.{_≤_};
 ghost use lib.ListN.{length};
-ghost use Rattle.layout.specs.Image.{Lengths};
+ghost use Rattle.network.specs.inner.Sound.{ContentLengths};
+ghost use Rattle.layout.specs.Image.{content};
 ghost use Rattle.command.specs.Command.{Outcome, Prints};
-ghost use Rattle.command.specs.Inner.{Counts};
+ghost use Rattle.command.specs.inner.Steps.{CountsPassed, Small, ReadAs};
 
-// Reads the network, with buffers of the lengths that the counts say.
+// Refuses, or solves what was read.
 fn run_read(
     bytes: &[u8],
-    n: usize,
-    m: usize,
-    b: usize,
-    e: usize,
-    ends: &mut [usize],
-    rays: &mut [f64],
-    weights: &mut [f64],
-    scales: &mut [f64],
-    points: &mut [f64],
-    text: &mut [u8],
+    counted: Counted,
+    s: Shape,
+    ends: &[usize],
+    rays: &[f64],
+    weights: &[f64],
+    scales: &[f64],
+    points: &[f64],
+    text: &mut [u8; 65536],
 ) -> Printed
-    requires { ⌜ Counts (now bytes) n m b e ⌝ }
-    requires { ⌜ n ≤ 64 ⌝ }
-    requires { ⌜ Lengths (b + e) m (now ends) (now rays) (now weights) (now scales) (now points) ⌝ }
-    requires { ⌜ length (now text) ≡ 65536 ⌝ }
+    requires { ⌜ Small s ⌝ }
+    requires { ⌜ ReadAs (now bytes) counted (content s (now ends) (now rays) (now weights) (now scales) (now points)) ⌝ }
     ensures { λ r. ⌜ Prints (Outcome (now (bytes .entry))) r (now (text .entry)) (now (text .exit)) ⌝ }
 {
-    let counted = read(bytes, ends, rays, weights, scales, points);
     match counted {
         Counted::Refused(r) => refuse(r, text),
-        Counted::Of(_) => place_read(n, m, b, e, ends, rays, weights, scales, points, text),
+        Counted::Of(_) => place_read(s, ends, rays, weights, scales, points, text),
     }
 }
 
-// Refuses more than 64 cameras, and takes of the buffers the parts that the counts say.
-fn run_counted(
+// Reads the network, with buffers of the lengths that the counts say.
+fn run_sized(
     bytes: &[u8],
-    n: usize,
-    m: usize,
-    b: usize,
-    e: usize,
+    s: Shape,
     ends: &mut [usize],
     rays: &mut [f64],
     weights: &mut [f64],
     scales: &mut [f64],
     points: &mut [f64],
-    text: &mut [u8],
+    text: &mut [u8; 65536],
 ) -> Printed
-    requires { ⌜ Counts (now bytes) n m b e ⌝ }
-    requires { ⌜ Lengths 340 680 (now ends) (now rays) (now weights) (now scales) (now points) ⌝ }
-    requires { ⌜ length (now text) ≡ 65536 ⌝ }
+    requires { ⌜ CountsPassed (now bytes) s ⌝ }
+    requires { ⌜ Small s ⌝ }
+    requires { ⌜ ContentLengths s (now ends) (now rays) (now weights) (now scales) (now points) ⌝ }
     ensures { λ r. ⌜ Prints (Outcome (now (bytes .entry))) r (now (text .entry)) (now (text .exit)) ⌝ }
 {
-    if 64 < n {
-        return refuse(
-            Refusal {
-                number: 1,
-                place: 0,
-            },
-            text,
-        );
-    }
-    let count = b + e;
+    let counted = read(bytes, ends, rays, weights, scales, points);
+    run_read(bytes, counted, s, ends, rays, weights, scales, points, text)
+}
+
+// Has the buffers: 16,384 bytes have room for 340 rows, or for 680 points.
+fn run_small(bytes: &[u8], s: Shape, text: &mut [u8; 65536]) -> Printed
+    requires { ⌜ CountsPassed (now bytes) s ⌝ }
+    requires { ⌜ Small s ⌝ }
+    ensures { λ r. ⌜ Prints (Outcome (now (bytes .entry))) r (now (text .entry)) (now (text .exit)) ⌝ }
+{
+    let mut ends = [0usize; 680];
+    let mut rays = [0.0f64; 1020];
+    let mut weights = [0.0f64; 340];
+    let mut scales = [0.0f64; 340];
+    let mut points = [0.0f64; 2040];
+    let count = s.bearings + s.directions;
     let end_numbers = 2 * count;
     let ray_numbers = 3 * count;
-    let point_numbers = 3 * m;
-    run_read(
+    let point_numbers = 3 * s.points;
+    run_sized(
         bytes,
-        n,
-        m,
-        b,
-        e,
+        s,
         &mut ends[..end_numbers],
         &mut rays[..ray_numbers],
         &mut weights[..count],
@@ -87,75 +83,31 @@ fn run_counted(
     )
 }
 
-// Reads the counts.
-fn run_in(
-    bytes: &[u8],
-    ends: &mut [usize],
-    rays: &mut [f64],
-    weights: &mut [f64],
-    scales: &mut [f64],
-    points: &mut [f64],
-    text: &mut [u8],
-) -> Printed
-    requires { ⌜ length (now bytes) ≤ 16384 ⌝ }
-    requires { ⌜ Lengths 340 680 (now ends) (now rays) (now weights) (now scales) (now points) ⌝ }
-    requires { ⌜ length (now text) ≡ 65536 ⌝ }
+// Refuses more than 64 cameras.
+fn run_counted(bytes: &[u8], s: Shape, text: &mut [u8; 65536]) -> Printed
+    requires { ⌜ CountsPassed (now bytes) s ⌝ }
     ensures { λ r. ⌜ Prints (Outcome (now (bytes .entry))) r (now (text .entry)) (now (text .exit)) ⌝ }
 {
-    let counted = counts(bytes);
-    match counted {
-        Counted::Refused(r) => refuse(r, text),
-        Counted::Of(s) => run_counted(
-            bytes,
-            s.n,
-            s.m,
-            s.b,
-            s.e,
-            ends,
-            rays,
-            weights,
-            scales,
-            points,
-            text,
-        ),
-    }
-}
-
-// Has the buffers: 16,384 bytes have room for 340 rows, or for 680 points.
-fn run_short(bytes: &[u8], text: &mut [u8]) -> Printed
-    requires { ⌜ length (now bytes) ≤ 16384 ⌝ }
-    requires { ⌜ length (now text) ≡ 65536 ⌝ }
-    ensures { λ r. ⌜ Prints (Outcome (now (bytes .entry))) r (now (text .entry)) (now (text .exit)) ⌝ }
-{
-    let mut ends = [0usize; 680];
-    let mut rays = [0.0f64; 1020];
-    let mut weights = [0.0f64; 340];
-    let mut scales = [0.0f64; 340];
-    let mut points = [0.0f64; 2040];
-    run_in(
-        bytes,
-        &mut ends,
-        &mut rays,
-        &mut weights,
-        &mut scales,
-        &mut points,
-        text,
-    )
-}
-
-// Refuses more than 16,384 bytes.
-pub fn run_text(bytes: &[u8], text: &mut [u8]) -> Printed
-    requires { ⌜ length (now text) ≡ 65536 ⌝ }
-    ensures { λ r. ⌜ Prints (Outcome (now (bytes .entry))) r (now (text .entry)) (now (text .exit)) ⌝ }
-{
-    if 16384 < bytes.len() {
+    if 64 < s.cameras {
         return refuse(
             Refusal {
-                number: 2,
+                number: 1,
                 place: 0,
             },
             text,
         );
     }
-    run_short(bytes, text)
+    run_small(bytes, s, text)
+}
+
+// Reads the counts.
+pub fn run_short(bytes: &[u8], text: &mut [u8; 65536]) -> Printed
+    requires { ⌜ length (now bytes) ≤ 16384 ⌝ }
+    ensures { λ r. ⌜ Prints (Outcome (now (bytes .entry))) r (now (text .entry)) (now (text .exit)) ⌝ }
+{
+    let counted = counts(bytes);
+    match counted {
+        Counted::Refused(r) => refuse(r, text),
+        Counted::Of(s) => run_counted(bytes, s, text),
+    }
 }

@@ -1,0 +1,113 @@
+-- A content that passes the reader's tests is solved: none of 1 to 8 refuses, and the answer is printed. Assumes nothing.
+use Prim.Native.Nat.{ℕ, _-_, _*_, _≤_}
+use mathlib.Core.Path.{_≡_, refl, ap, ap₂, _∙_}
+use mathlib.Core.Bool.{Bool, true, false, cond, not, _&&_}
+use mathlib.Core.List.{List, []}
+use native.Mathlib.Omega.{arith}
+use native.Mathlib.Nat.{mul-le-mul}
+use lib.ListN.{length}
+use lib.Dec.{ltb}
+use lib.Ieee.{Float}
+use borrow.Author.Tests.{ltb-false, le-leb, eq-eqb}
+use Rattle.network.specs.declared.Shape.{Shape}
+use Rattle.network.specs.declared.Verdict.the-variants.{Passed}
+use Rattle.network.specs.Network.{graph, Network, network, rows}
+use Rattle.network.specs.Refusals.{verdict, countTests, lengthTests, listsFit, networkFits, endTests, listTests, networkRowTests, badRoute, routeTests, denseRows}
+use Rattle.network.proofs.Verdicts.{verdict-one, passed-test, both-passed}
+use Rattle.system.specs.Work.{workLength}
+use Rattle.recover.specs.Recover.{pointsOf}
+use Rattle.placement.specs.declared.Answer.{Answer}
+use Rattle.placement.specs.Routes.{submission, buffersFit, submissionTests, submissionVerdict, Placement, rejected, failing, placed, placement}
+use Rattle.placement.specs.Solved.{answerOf, camerasAfter, pointsAfter, Solved as SolveCall}
+use Rattle.layout.specs.Image.{content}
+use Rattle.command.specs.declared.Printed.{Printed}
+use Rattle.command.specs.Command.{lines, ending, PointLists, Solved, Prints}
+use Rattle.command.specs.inner.Steps.{Small, ContentSound, BuffersSized, PartCount, textOf, AnsweredAs, SolvedAs}
+use Rattle.command.proofs.Printing.{vectors-flat, prints-as}
+use Rattle.command.proofs.Passing.{fits}
+
+-- at most 48 rows are dense
+dense-rows : (n : ℕ) → denseRows n 3 48 ≤ 48
+unfolding denseRows badRoute
+dense-rows n = go (ltb 48 (n - 1)) refl
+  where
+    go : (b : Bool) → ltb 48 (n - 1) ≡ b → cond b 0 (n - 1) ≤ 48
+    go true e = omega arith
+    go false e = ltb-false 48 (n - 1) e
+
+work-enough : (s : Shape) → Small s → workLength s 3 48 ≤ 6980
+unfolding workLength
+work-enough s h =
+    let d = dense-rows (s .cameras) in
+    let q : denseRows (s .cameras) 3 48 * denseRows (s .cameras) 3 48 ≤ 48 * 48 = mul-le-mul d d in
+    omega arith
+
+-- the text of an answer, from what the outputs hold, is that of how the solve ended
+answer-lines : (x : Placement) (net : Network) (k : ℕ) (cs ps : List Float) →
+    textOf (net .shape) k (answerOf x) (camerasAfter x cs) (pointsAfter net x ps) ≡ lines net k x
+answer-lines (rejected r) net k cs ps = refl
+answer-lines (failing r) net k cs ps = refl
+answer-lines (placed p cameras) net k cs ps = rw (vectors-flat cameras, vectors-flat (pointsOf net cameras))
+
+module _ (s : Shape) (es : List ℕ) (rs ws ss ps : List Float) (offsets listed : List ℕ)
+    (C : ContentSound (content s es rs ws ss ps)) (L : PointLists s es offsets listed) where
+  net : Network
+  net = network s es rs ws ss ps offsets listed
+
+  network-fit : networkFits net ≡ true
+  unfolding net networkFits listsFit
+  network-fit = ap₂ _&&_ (C .fit) (ap₂ _&&_ (eq-eqb _ _ (L .offsetCount)) (eq-eqb _ _ (L .listedCount)))
+
+  rows-passed : verdict (networkRowTests net []) ≡ Passed
+  unfolding net networkRowTests listTests
+  rows-passed =
+      both-passed (endTests s es) _ (C .ends)
+      (both-passed _ _ (verdict-one _ ∙ passed-test 6 (ap not (L .rule))) (C .domain))
+
+  route-passed : verdict (routeTests 3 48) ≡ Passed
+  unfolding routeTests badRoute
+  route-passed = verdict-one _ ∙ passed-test 8 refl
+
+  module _ (a cs qs : List Float) (B : BuffersSized s a cs qs) where
+    buffers-fit : buffersFit s 3 48 (length a) (length cs) (length qs) ≡ true
+    unfolding buffersFit
+    buffers-fit =
+        let h = work-enough s (B .small) in
+        let w = B .work in
+        ap₂ _&&_ (eq-eqb _ _ (B .cameras)) (ap₂ _&&_ (eq-eqb _ _ (B .points)) (le-leb (workLength s 3 48) (length a) (omega arith)))
+
+    -- 1 to 8 refuse nothing
+    submission-passed : submissionVerdict (submission net 3 48 (length a) (length cs) (length qs)) ≡ Passed
+    unfolding submissionTests net
+    submission-passed =
+        both-passed (countTests s) _ (C .counts)
+        (both-passed (lengthTests _) _ (fits (ap₂ _&&_ network-fit buffers-fit))
+        (both-passed (networkRowTests net []) _ rows-passed route-passed))
+
+    solve-passed : placement (submission net 3 48 (length a) (length cs) (length qs)) ≡ ending net
+    unfolding placement net
+    solve-passed = rw submission-passed
+
+  pub solved : (k : ℕ) (answer : Answer) (a a' cs cs' qs qs' : List Float) →
+      SolveCall (submission (network s es rs ws ss ps offsets listed) 3 48 (length a) (length cs) (length qs)) answer a a' cs cs' qs qs' → PartCount (graph s es ws) k →
+      BuffersSized s a cs qs → Solved (content s es rs ws ss ps) answer (textOf s k answer cs' qs')
+  unfolding net
+  solved k answer a a' cs cs' qs qs' call P B =
+      let e = solve-passed a cs qs B in
+      let answers : answer ≡ answerOf (ending net) = call .answer ∙ ap answerOf e in
+      let f : cs' ≡ camerasAfter (ending net) cs = call .camerasOut ∙ ap (λ t. camerasAfter t cs) e in
+      let g : qs' ≡ pointsAfter net (ending net) qs = call .pointsOut ∙ ap (λ t. pointsAfter net t qs) e in
+      record {
+        offsets = offsets;
+        listed = listed;
+        lists = L;
+        labels = P .labels;
+        labelled = P .labelled;
+        answered = answers;
+        printed = rw (answers, f, g) (answer-lines (ending net) net k cs qs) ∙ ap (λ t. lines net t (ending net)) (P .counted);
+      }
+
+-- what was solved is printed
+pub solved-printed : (s : Shape) (es : List ℕ) (rs ws ss ps : List Float) (k : ℕ) (x : Answer) (cs qs : List Float) {r : Printed} {out out' : List ℕ} →
+    SolvedAs (content s es rs ws ss ps) k x cs qs → Prints (AnsweredAs s k x cs qs) r out out' → Prints (Solved (content s es rs ws ss ps)) r out out'
+solved-printed s es rs ws ss ps k x cs qs h = prints-as (λ b u q. rw (q .answered, q .printed) (h .solved))
