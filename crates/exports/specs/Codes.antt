@@ -10,8 +10,9 @@ use Rattle.graph.specs.declared.Connectivity.the-variants as connectivity
 use Rattle.graph.specs.declared.Listing.{Listing}
 use Rattle.graph.specs.declared.Listing.the-variants as listing
 use Rattle.graph.specs.Outcome.{ConnectivityCall, ListingCall}
-use Rattle.network.specs.declared.Length.{Length}
-use Rattle.network.specs.declared.Length.the-variants as needed
+use Rattle.network.specs.declared.Shape.{Shape}
+use Rattle.system.specs.declared.work.Length.{Length}
+use Rattle.system.specs.declared.work.Length.the-variants as needed
 use Rattle.network.specs.declared.Verdict.{Verdict}
 use Rattle.network.specs.declared.Verdict.the-variants as verdict
 use Rattle.recover.specs.Recover.{dotsOf, scalesOf}
@@ -21,13 +22,12 @@ use Rattle.placement.specs.declared.Answer.the-variants as solving
 use Rattle.placement.specs.Routes.{Submission}
 use Rattle.placement.specs.Solved.{Solved}
 use Rattle.layout.specs.Image.{Content}
-use Rattle.image.specs.declared.Sizes.{Sizes}
 use Rattle.image.specs.declared.Counted.{Counted}
 use Rattle.image.specs.declared.Counted.the-variants as counted
 use Rattle.image.specs.declared.Written.{Written}
 use Rattle.image.specs.declared.Written.the-variants as written
-use Rattle.image.specs.Calls.{countsOf, Reads, Writes}
-use Rattle.lists.specs.Listed.{Listed}
+use Rattle.image.specs.Calls.{Lists, countsOf, Reads, Writes}
+use Rattle.lists.specs.PointLists.{PointListsCall}
 
 -- connected is 1, not connected 0
 abbrev pub connectivityCode : Connectivity → ℕ
@@ -58,7 +58,7 @@ abbrev pub lengthReport : Length → ℕ
 lengthReport (needed.Refused r) = r .place
 lengthReport (needed.Of t) = t
 
--- nothing is asked but whether it went
+-- a call that only fills buffers has nothing to report but a refusal
 abbrev pub verdictCode : Verdict → ℕ
 verdictCode (verdict.Refused r) = r .number
 verdictCode verdict.Passed = 0
@@ -77,8 +77,8 @@ answerReport (solving.Refused r) old = set old 0 (r .place)
 answerReport (solving.Accepted p) old = set (set (set old 0 (p .anchor)) 1 (p .route)) 2 (p .rounds)
 
 -- an image's report has four numbers: n, m, B, E
-abbrev pub sizesReport : Sizes → List ℕ → List ℕ
-sizesReport s old = set (set (set (set old 0 (s .n)) 1 (s .m)) 2 (s .b)) 3 (s .e)
+abbrev pub shapeReport : Shape → List ℕ → List ℕ
+shapeReport s old = set (set (set (set old 0 (s .cameras)) 1 (s .points)) 2 (s .bearings)) 3 (s .directions)
 
 abbrev pub countedCode : Counted → ℕ
 countedCode (counted.Refused r) = r .number
@@ -86,7 +86,7 @@ countedCode (counted.Of s) = 0
 
 abbrev pub countedReport : Counted → List ℕ → List ℕ
 countedReport (counted.Refused r) old = set old 0 (r .place)
-countedReport (counted.Of s) old = sizesReport s old
+countedReport (counted.Of s) old = shapeReport s old
 
 -- the bytes written
 abbrev pub writtenCode : Written → ℕ
@@ -129,7 +129,8 @@ abbrev pub ScalesCall : Placed → ℕ → List Float → List Float → List �
 ScalesCall i = FilledCall i (scalesOf (i .net) (camerasOf i))
 
 -- where the report has three numbers
-pub record Reported (i : Submission) (code : ℕ) (work work' cameras cameras' points points' : List Float) (report report' : List ℕ) : Type 0 where
+pub record Reported (i : Submission) (code : ℕ)
+    (work work' cameras cameras' points points' : List Float) (report report' : List ℕ) : Type 0 where
   pub answer : Answer
   pub call : Solved i answer work work' cameras cameras' points points'
   pub coded : code ≡ answerCode answer
@@ -143,7 +144,8 @@ pub record Unreported (code : ℕ) (work work' cameras cameras' points points' :
   pub pointsKept : points' ≡ points
   pub reportKept : report' ≡ report
 
-pub record SolveCall (i : Submission) (code : ℕ) (work work' cameras cameras' points points' : List Float) (report report' : List ℕ) : Type 0 where
+pub record SolveCall (i : Submission) (code : ℕ)
+    (work work' cameras cameras' points points' : List Float) (report report' : List ℕ) : Type 0 where
   pub whole : length report ≡ 3 → Reported i code work work' cameras cameras' points points' report report'
   pub otherwise : (length report ≡ 3 → ⊥) → Unreported code work work' cameras cameras' points points' report report'
 
@@ -153,13 +155,13 @@ pub record CountsCall (l : List ℕ) (code : ℕ) (report report' : List ℕ) : 
   pub otherwise : (length report ≡ 4 → ⊥) → (code ≡ 3) × (report' ≡ report)
 
 -- where the report has four numbers; `left` is what the five lists of `lent` hold after the call
-pub record ReadReported (l : List ℕ) (lent left : Content) (code : ℕ) (report report' : List ℕ) : Type 0 where
+pub record ReadReported (l : List ℕ) (lent left : Lists) (code : ℕ) (report report' : List ℕ) : Type 0 where
   pub answer : Counted
   pub call : Reads l lent answer left
   pub coded : code ≡ countedCode answer
   pub reported : report' ≡ countedReport answer report
 
-pub record ReadCall (l : List ℕ) (lent left : Content) (code : ℕ) (report report' : List ℕ) : Type 0 where
+pub record ReadCall (l : List ℕ) (lent left : Lists) (code : ℕ) (report report' : List ℕ) : Type 0 where
   pub whole : length report ≡ 4 → ReadReported l lent left code report report'
   pub otherwise : (length report ≡ 4 → ⊥) → (code ≡ 3) × (left ≡ lent) × (report' ≡ report)
 
@@ -169,8 +171,8 @@ pub record WriteCall (c : Content) (out out' : List ℕ) (code : ℕ) (report re
   pub coded : code ≡ writtenCode answer
   pub reported : report' ≡ set report 0 (writtenReport answer)
 
-pub record ListCall (m b : ℕ) (ends offsets offsets' rows rows' : List ℕ) (code : ℕ) (report report' : List ℕ) : Type 0 where
+pub record ListCall (m b : ℕ) (ends offsets offsets' listed listed' : List ℕ) (code : ℕ) (report report' : List ℕ) : Type 0 where
   pub answer : Verdict
-  pub call : Listed m b ends offsets rows answer offsets' rows'
+  pub call : PointListsCall m b ends offsets listed answer offsets' listed'
   pub coded : code ≡ verdictCode answer
   pub reported : report' ≡ set report 0 (verdictReport answer)

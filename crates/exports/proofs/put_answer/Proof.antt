@@ -1,48 +1,19 @@
+use Rattle.exports.proofs.Calls.{answer-refused, answer-accepted}
 use borrow.Author.Needs.{needs}
 use Rattle.exports.proofs.put_answer.Statement.{statement}
 use Rattle.exports.proofs.put_answer.Tie as tie
-
-enum-known-a : tie.Need-enum-known-a
-enum-known-a c = search needs
-
-slice-write-report : tie.Need-slice-write-report
-slice-write-report c = search needs
-
-enum-known-a-2 : tie.Need-enum-known-a-2
-enum-known-a-2 c = search needs
-
-slice-write-report-2 : tie.Need-slice-write-report-2
-slice-write-report-2 c = search needs
-
-slice-write-report-3 : tie.Need-slice-write-report-3
-slice-write-report-3 c = search needs
-
-slice-write-report-4 : tie.Need-slice-write-report-4
-slice-write-report-4 c = search needs
-
-same-length : tie.Need-same-length
-same-length c = search needs
-
-returns : tie.Need-returns
-returns c = rw (c .before .a .given .1)
-
-same-length-2 : tie.Need-same-length-2
-same-length-2 c = search needs
-
-returns-2 : tie.Need-returns-2
-returns-2 c = rw (c .before .a2 .given .1)
 
 pub put-answer-spec : {M : Type 1} → statement M
 put-answer-spec =
     tie.close
     (tie.spec
-    enum-known-a
-    slice-write-report
-    enum-known-a-2
-    slice-write-report-2
-    slice-write-report-3
-    slice-write-report-4
-    same-length
-    returns
-    same-length-2
-    returns-2)
+    (λ c. search needs)
+    (λ c. search needs)
+    (λ c. search needs)
+    (λ c. search needs)
+    (λ c. search needs)
+    (λ c. search needs)
+    (λ c. search needs)
+    (λ c. search answer-refused)
+    (λ c. search needs)
+    (λ c. search answer-accepted))
