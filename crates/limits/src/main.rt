@@ -10,10 +10,10 @@ use network::Refusal;
 use network::Shape;
 use network::Verdict;
 use network::check_counts;
-use stages::Length;
 use stages::check_solve;
 use stages::check_step;
-use stages::work_length;
+use system::work::Length;
+use system::work::work_length;
 
 fn shape(n: usize, m: usize, b: usize, e: usize) -> Shape {
     Shape {
