@@ -7,17 +7,23 @@ use Rattle.field.specs.Buffer.{get}
 use Rattle.double.specs.Sums.{total}
 use Rattle.sqrt.specs.Root.{root}
 use Rattle.network.specs.Lists.{none}
-use Rattle.system.specs.System.{effective, pull, pointWeight, pullSum, meanOf, meanOffset, sees, departs, arrives, addBearing, addDirection, assembleRow, terms, greatest, anchorOf}
+use Rattle.system.specs.System.{effectiveIn, pullIn, weightSum, pullSum, meanOf, sumsFrom, sees, departs, arrives, addBearing, addDirection, assembleRow, assembleRows, greatest, anchorOf}
 use Rattle.dense.specs.Rows.{denseRow}
-use Rattle.dense.specs.Matrix.{setDiagonal, couple, pointCouplings, matrix}
+use Rattle.dense.specs.Matrix.{times, setDiagonal, couple, diagonalStep, coupleCameras, pairStep, placeStep, pointStep, directionStep, couplings, matrixBy}
 use Rattle.cholesky.specs.Cholesky.{stopped, run, remainder, factorEntry, pivot, factorRow, factor, solution}
-use Rattle.dense.specs.Dense.{denseSolution}
+use Rattle.dense.specs.Dense.{camerasBy, denseSolution}
 use Rattle.dense.specs.Edges.{pair, triple}
 
 pub pair-stops : denseSolution pair ≡ stopped 15 0
-unfolding pair denseSolution solution factor factorRow factorEntry pivot run remainder matrix setDiagonal couple pointCouplings denseRow anchorOf greatest none lowest terms assembleRow addBearing addDirection sees departs arrives meanOffset meanOf pointWeight pullSum pull effective total upto field get plus minus scale over add sub mul div neg lt ofBits
+unfolding pair denseSolution camerasBy solution factor factorRow factorEntry pivot run remainder
+    matrixBy couplings pointStep placeStep pairStep directionStep diagonalStep coupleCameras setDiagonal couple times denseRow
+    anchorOf greatest none lowest assembleRows assembleRow addBearing addDirection sees departs arrives
+    sumsFrom meanOf weightSum pullSum pullIn effectiveIn total upto field get plus minus scale over add sub mul div neg lt ofBits
 pair-stops = refl
 
 pub triple-stops : denseSolution triple ≡ stopped 16 1
-unfolding triple denseSolution solution factor factorRow factorEntry pivot run remainder matrix setDiagonal couple pointCouplings denseRow anchorOf greatest none lowest terms assembleRow addBearing addDirection sees departs arrives meanOffset meanOf pointWeight pullSum pull effective total upto field get plus minus scale over add sub mul div neg lt ofBits root
+unfolding triple denseSolution camerasBy solution factor factorRow factorEntry pivot run remainder
+    matrixBy couplings pointStep placeStep pairStep directionStep diagonalStep coupleCameras setDiagonal couple times denseRow
+    anchorOf greatest none lowest assembleRows assembleRow addBearing addDirection sees departs arrives
+    sumsFrom meanOf weightSum pullSum pullIn effectiveIn total upto field get plus minus scale over add sub mul div neg lt ofBits root
 triple-stops = refl

@@ -1,10 +1,6 @@
 pub mod Indices
-pub mod Segment
-pub mod Couplings
-pub mod Reading
-pub mod Given
-pub mod Turns
+pub mod Changes
+pub mod Steps
 pub mod Placing
-pub mod Keeping
 pub mod Solving
 pub mod Edges

@@ -1,8 +1,9 @@
--- The right side and the cameras, as code tells them. Assumes nothing.
+-- The right side and the cameras. Assumes nothing.
 use mathlib.Core.Path.{_≡_, refl, sym, ap, _∙_}
 use mathlib.Core.Logic.{inl, inr}
 use mathlib.Core.List.{List}
-use Prim.Native.Nat.{ℕ, suc, _+_, _*_, _<_, _≤_}
+use Prim.Native.Nat.{ℕ, _+_, _*_, _<_, _≤_}
+use native.Mathlib.Numerals.{add-one}
 use native.Mathlib.Omega.{arith}
 use lib.ListN.{length}
 use lib.Ieee.{Float}
@@ -11,68 +12,92 @@ use Rattle.field.specs.Vec.{origin}
 use Rattle.field.specs.Count.{field}
 use Rattle.field.specs.Buffer.{get, put, load, store, vector}
 use Rattle.field.proofs.Counting.{length-field}
-use Rattle.field.proofs.Buffers.{at-load, get-store-apart, load-store-apart, map-more, store-none, length-put, vector-lawful}
+use Rattle.field.proofs.Buffers.{at-load, load-store-apart, map-more, store-none, vector-lawful}
+use Rattle.network.specs.declared.Shape.{Shape}
+use Rattle.system.specs.declared.CameraTerm.{CameraTerm}
 use Rattle.system.specs.System.{termAt}
-use Rattle.system.specs.Work.{term}
+use Rattle.system.specs.Work.{term, termPlace, positionsAt, denseRightAt}
 use Rattle.dense.specs.declared.rows.DenseRow.{DenseRow}
 use Rattle.dense.specs.declared.rows.Row.{Row}
 use Rattle.dense.specs.declared.rows.Row.the-variants.{Anchor, Dense}
 use Rattle.dense.specs.Rows.{denseRow, cameraOf}
-use Rattle.dense.specs.Dense.{rightOf, placed, spreadOf, putRow}
-use Rattle.dense.proofs.Indices.{rowsBelow, rows-none, rows-all, turn-anchor, turn-dense}
-use Rattle.dense.proofs.Reading.{right-at}
+use Rattle.dense.specs.Dense.{rightOf, rowVector, cameraVector}
+use Rattle.dense.specs.inner.Held.{RowWithin, putRow}
+use Rattle.dense.proofs.Indices.{rowsBelow, rows-none, rows-all, count-anchor, count-dense, within-dense}
+use Rattle.dense.proofs.Steps.{term-read}
 
 -- ---- a row's vector
 
-pub put-anchor : (l : List Float) (p : ℕ) (r : Row) (v : Vec3) → r ≡ Anchor → l ≡ putRow l p r v
+pub put-anchor : (l : List Float) (p : ℕ) (r : Row) (v : Vec3) → r ≡ Anchor → l ≡ putRow p r v l
 unfolding putRow
 put-anchor l p r v e = rw e
 
-pub put-dense : (l w : List Float) (p i : ℕ) (r : Row) (q : DenseRow) (v : Vec3) → r ≡ Dense q → i ≡ q .0 → w ≡ put vector l (p + 3 * i) v → w ≡ putRow l p r v
+pub put-dense : (l w : List Float) (p k : ℕ) (r : Row) (q : DenseRow) (v : Vec3) → r ≡ Dense q → k ≡ p + 3 * q .0 → w ≡ put vector l k v → w ≡ putRow p r v l
 unfolding putRow
-put-dense l w p i r q v e f g = rw (e, ← f) g
+put-dense l w p k r q v e f g = rw (e, ← f) g
 
-pub length-put-row : (l : List Float) (p : ℕ) (r : Row) (v : Vec3) → length (putRow l p r v) ≡ length l
-unfolding putRow
-length-put-row l p Anchor v = refl
-length-put-row l p (Dense q) v = length-put vector l (p + 3 * q .0) v
-
-pub placed-anchor : (x : List Vec3) (r : Row) → r ≡ Anchor → origin ≡ placed x r
-placed-anchor x r e = rw e
-
-pub placed-dense : (l : List Float) (p d i : ℕ) (r : Row) (q : DenseRow) (v : Vec3) → r ≡ Dense q → i ≡ q .0 → i < d → v ≡ get vector l (p + 3 * i) → v ≡ placed (load vector l p d) r
-placed-dense l p d i r q v e f h g = g ∙ sym (at-load vector l p d i origin h) ∙ rw (e, f)
+pub vector-dense : (l : List Float) (p d k : ℕ) (r : Row) (q : DenseRow) (v : Vec3) → r ≡ Dense q → RowWithin d r → k ≡ p + 3 * q .0 →
+    v ≡ get vector l k → v ≡ rowVector (load vector l p d) r
+vector-dense l p d k r q v e h f g = rw e (g ∙ rw f (sym (at-load vector l p d (q .0) origin (within-dense d r q h e))))
 
 -- ---- the right side
 
-module _ (l : List Float) (p a n : ℕ) where
-  pub right-none : l ≡ store vector l p (field (rowsBelow a 0) (rightOf a (load term l 0 n)))
-  right-none = rw rows-none (store-none vector l p (rightOf a (load term l 0 n)))
+pub right-put : (s : Shape) (a d at c : ℕ) (l w : List Float) (t : CameraTerm) (row : Row) → c < s .cameras → at ≡ denseRightAt s d →
+    t ≡ get term l (termPlace c) → row ≡ denseRow c a → w ≡ putRow at row (t .right) l →
+    w ≡ putRow (denseRightAt s d) (denseRow c a) (termAt (load term l 0 (s .cameras)) c .right) l
+right-put s a d at c l w t row h ea et er e = let q = term-read l (s .cameras) c t h et in rw (q, ← ea, ← er) e
 
-  pub right-all : (d : ℕ) (w : List Float) → a < d + 1 → w ≡ store vector l p (field (rowsBelow a (d + 1)) (rightOf a (load term l 0 n))) → w ≡ store vector l p (field d (rightOf a (load term l 0 n)))
-  right-all d w h e = rw (rows-all a d h) at e
+module _ (s : Shape) (a d : ℕ) (l : List Float) where
+  -- the right sides of the cameras below c
+  abbrev filled : ℕ → List Float
+  filled c = store vector l (denseRightAt s d) (field (rowsBelow a c) (rightOf a (load term l 0 (s .cameras))))
 
-  -- a camera's turn
-  pub right-turn : (c : ℕ) (w u : List Float) (r : Row) (v : Vec3) → w ≡ store vector l p (field (rowsBelow a c) (rightOf a (load term l 0 n))) → r ≡ denseRow c a → v ≡ get vector w (5 * c + 1) → u ≡ putRow w p r v → c < n → 5 * n ≤ p →
-      u ≡ store vector l p (field (rowsBelow a (c + 1)) (rightOf a (load term l 0 n)))
+  pub right-none : l ≡ filled 0
+  right-none = rw rows-none (store-none vector l (denseRightAt s d) _)
+
+  pub right-more : (c : ℕ) (w u : List Float) → c < s .cameras → w ≡ filled c →
+      u ≡ putRow (denseRightAt s d) (denseRow c a) (termAt (load term w 0 (s .cameras)) c .right) w → u ≡ filled (c + 1)
   unfolding putRow
-  right-turn c w u r v ew er ev eu h k = go r (sym er) eu
+  right-more c w u h ew eu = go (denseRow c a) refl eu
     where
-      go : (s : Row) → denseRow c a ≡ s → u ≡ putRow w p s v → u ≡ store vector l p (field (rowsBelow a (c + 1)) (rightOf a (load term l 0 n)))
-      go Anchor e f = rw (turn-anchor a c e) (f ∙ ew)
+      go : (r : Row) → denseRow c a ≡ r → u ≡ putRow (denseRightAt s d) r (termAt (load term w 0 (s .cameras)) c .right) w → u ≡ filled (c + 1)
+      go Anchor e f = rw (count-anchor a c e) (f ∙ ew)
       go (Dense q) e f =
-          let t = turn-dense a c q e in
+          let t = count-dense a c q e in
           let z : cameraOf (rowsBelow a c) a ≡ c = rw (t .row) at (t .camera) in
-          let x : v ≡ rightOf a (load term l 0 n) (rowsBelow a c) =
-          ev ∙ rw ew (get-store-apart vector vector vector-lawful l p _ (5 * c + 1) (inr (omega arith))) ∙ right-at l n c h ∙ ap (λ (j : ℕ). termAt (load term l 0 n) j .right) (sym z) in
-          f ∙ rw (t .row, t .more) (map-more vector vector-lawful l p (rowsBelow a c) (rightOf a (load term l 0 n)) w v ew x)
+          let k : load term w 0 (s .cameras) ≡ load term l 0 (s .cameras) = rw ew (load-store-apart term vector vector-lawful l (denseRightAt s d) _ 0 (s .cameras) (inr (omega arith))) in
+          let x : termAt (load term w 0 (s .cameras)) c .right ≡ rightOf a (load term l 0 (s .cameras)) (rowsBelow a c) =
+          ap (λ (y : List CameraTerm). termAt y c .right) k ∙ ap (λ (j : ℕ). termAt (load term l 0 (s .cameras)) j .right) (sym z) in
+          f ∙ rw (t .row, t .more) (map-more vector vector-lawful l (denseRightAt s d) (rowsBelow a c) (rightOf a (load term l 0 (s .cameras))) w _ ew x)
+
+  pub right-ended : (c : ℕ) (w : List Float) → w ≡ filled c → c ≤ s .cameras → s .cameras ≤ c → d + 1 ≡ s .cameras → a < s .cameras →
+      w ≡ store vector l (denseRightAt s d) (field d (rightOf a (load term l 0 (s .cameras))))
+  right-ended c w e h k z b =
+      let q : c ≡ d + 1 = omega arith in
+      let y : rowsBelow a c ≡ d = rw q (rows-all a d (omega arith)) in
+      rw y at e
 
 -- ---- the cameras
 
-module _ (l : List Float) (p q d a : ℕ) where
-  pub spread-turn : (c n : ℕ) (w u : List Float) (r : Row) (v : Vec3) → w ≡ store vector l q (field c (spreadOf a (load vector l p d))) → r ≡ denseRow c a → v ≡ placed (load vector w p d) r → u ≡ put vector w (q + 3 * c) v → c < n → q + 3 * n ≤ p →
-      u ≡ store vector l q (field (suc c) (spreadOf a (load vector l p d)))
-  spread-turn c n w u r v ew er ev eu h k =
-      let e : length (field c (spreadOf a (load vector l p d))) ≡ c = length-field c (spreadOf a (load vector l p d)) in
-      let x : load vector w p d ≡ load vector l p d = rw ew (load-store-apart vector vector vector-lawful l q _ p d (inl (omega arith))) in
-      eu ∙ map-more vector vector-lawful l q c (spreadOf a (load vector l p d)) w v ew (rw (x, er) at ev)
+pub camera-put : (s : Shape) (a d at into c : ℕ) (l w : List Float) (v : Vec3) (row : Row) → at ≡ denseRightAt s d → into ≡ positionsAt s → row ≡ denseRow c a →
+    v ≡ rowVector (load vector l at d) row → w ≡ put vector l (into + 3 * c) v →
+    w ≡ put vector l (positionsAt s + 3 * c) (cameraVector a (load vector l (denseRightAt s d) d) c)
+camera-put s a d at into c l w v row ea ei er ev e = rw (← ea, ← ei, ← er, ← ev) e
+
+module _ (s : Shape) (a d : ℕ) (l : List Float) where
+  pub spread-none : l ≡ store vector l (positionsAt s) (field 0 (cameraVector a (load vector l (denseRightAt s d) d)))
+  spread-none = store-none vector l (positionsAt s) _
+
+  pub spread-more : (c : ℕ) (w u : List Float) → c < s .cameras →
+      w ≡ store vector l (positionsAt s) (field c (cameraVector a (load vector l (denseRightAt s d) d))) →
+      u ≡ put vector w (positionsAt s + 3 * c) (cameraVector a (load vector w (denseRightAt s d) d) c) →
+      u ≡ store vector l (positionsAt s) (field (c + 1) (cameraVector a (load vector l (denseRightAt s d) d)))
+  spread-more c w u h ew eu =
+      let g = cameraVector a (load vector l (denseRightAt s d) d) in
+      let e : length (field c g) ≡ c = length-field c g in
+      let x : load vector w (denseRightAt s d) d ≡ load vector l (denseRightAt s d) d =
+      rw ew (load-store-apart vector vector vector-lawful l (positionsAt s) (field c g) (denseRightAt s d) d (inl (omega arith))) in
+      eu ∙ rw add-one (map-more vector vector-lawful l (positionsAt s) c g w _ ew (ap (λ (y : List Vec3). cameraVector a y c) x))
+
+  pub spread-ended : (c n : ℕ) (w : List Float) (g : ℕ → Vec3) → w ≡ store vector l (positionsAt s) (field c g) → c ≤ n → n ≤ c → w ≡ store vector l (positionsAt s) (field n g)
+  spread-ended c n w g e h k = let q : c ≡ n = omega arith in rw q at e

@@ -1,6 +1,6 @@
--- How the parts of the dense solve make the whole. Assumes nothing.
+-- How the parts of the dense solve make the whole, and what it keeps of the work buffer. Assumes nothing.
 use mathlib.Core.Path.{_≡_, refl, sym, ap, _∙_}
-use mathlib.Core.Logic.{inl, inr}
+use mathlib.Core.Logic.{_⊎_, inl, inr, ⊎-elim}
 use mathlib.Core.List.{List}
 use Prim.Native.Nat.{ℕ, _+_, _-_, _*_, _≤_}
 use native.Mathlib.Omega.{arith}
@@ -10,140 +10,167 @@ use lib.Ieee.{Float}
 use borrow.Rule.Slice.PartMut.{putMid, midOf}
 use Rattle.field.specs.declared.Vec3.{Vec3}
 use Rattle.field.specs.Count.{field}
-use Rattle.field.specs.Buffer.{part, write, load, flat, store, vector}
+use Rattle.field.specs.Buffer.{Cell, part, write, load, store, number, vector}
 use Rattle.field.proofs.Counting.{length-field}
-use Rattle.field.proofs.Buffers.{length-write, length-store, part-same, part-apart, load-part, load-store, vector-lawful}
-use Rattle.network.specs.Network.{Network}
-use Rattle.system.specs.System.{terms, anchor}
-use Rattle.system.specs.Work.{rightAt, matrixAt, term}
+use Rattle.field.proofs.Buffers.{Lawful, length-store, part-same, load-part, load-store, load-store-apart, drop-store, store-number, number-lawful, vector-lawful}
+use Rattle.network.specs.declared.Shape.{Shape}
+use Rattle.network.specs.Network.{Network, rows, links, linksOf}
+use Rattle.network.specs.inner.Sound.{LinksSound}
+use Rattle.system.specs.declared.CameraTerm.{CameraTerm}
+use Rattle.system.specs.System.{Weights, weightsOf, terms, anchor}
+use Rattle.system.specs.Work.{positionsAt, rightAt, weightsAt, effectiveAt, matrixAt, denseRightAt, workEnd, term}
+use Rattle.system.specs.inner.Formed.{weightsIn, Segments}
+use Rattle.system.proofs.Forming.{held-at, part-store}
 use Rattle.cholesky.specs.declared.Solve.{Solve}
 use Rattle.cholesky.specs.declared.Solve.the-variants.{Done, Stopped}
-use Rattle.cholesky.specs.Cholesky.{done, stopped, then, ended, factor, forward, back, substitution, solution, Substituted}
-use Rattle.dense.specs.Matrix.{matrix}
-use Rattle.dense.specs.Dense.{Kept, dimension, rightOf, spreadOf, spread, denseSolution, Reduced, Factored, Placed, Solved}
-use Rattle.dense.proofs.Segment.{lent-length, lent-back}
-use Rattle.dense.proofs.Given.{reduced-write}
-use Rattle.dense.proofs.Turns.{length-matrix}
+use Rattle.cholesky.specs.Cholesky.{Result, done, stopped, then, ended, factor, forward, back, substitution, solution, Substituted}
 use Rattle.cholesky.proofs.Factored.{ended-done, ended-stopped}
-use Rattle.dense.proofs.Keeping.{kept-none, kept-write, kept-store, segments-kept}
+use Rattle.dense.specs.Matrix.{matrixBy}
+use Rattle.dense.specs.Dense.{dimension, rightOf, cameraVector, spread, camerasBy, denseSolutionBy, denseSolution}
+use Rattle.dense.specs.inner.Held.{camerasOf, DenseKept, MatrixFactored, RightSolved, DenseSolved}
+use Rattle.dense.proofs.Changes.{AgreeOn, lent-part, lent-length, lent-back}
+use Rattle.dense.proofs.Steps.{matrix-same, length-matrix}
+
+-- ---- what is kept
+
+-- k numbers from place q on lie among the positions, or among the matrix and its right side
+abbrev Own : Shape → ℕ → ℕ → ℕ → Type 0
+Own s d q k = ((positionsAt s ≤ q) × (q + k ≤ rightAt s)) ⊎ ((matrixAt s ≤ q) × (q + k ≤ workEnd s d))
+
+module _ (s : Shape) (d : ℕ) where
+  kept-store : {A : Type 0} (K : Cell A) → Lawful K → (l w : List Float) (q : ℕ) (f : List A) → w ≡ store K l q f → Own s d q (K .width * length f) → DenseKept s d l w
+  kept-store K W l w q f e o = record {
+    terms = rw e (load-store-apart term K W l q f 0 (s .cameras) (inr (⊎-elim (λ b. omega (arith, b .0)) (λ b. omega (arith, b .0)) o)));
+    points = rw e (part-store K W l q f (weightsAt s) (s .points) (⊎-elim (λ b. inl (omega (arith, b .1))) (λ b. inr (omega (arith, b .0))) o));
+    rows = rw e (part-store K W l q f (effectiveAt s) (rows s) (⊎-elim (λ b. inl (omega (arith, b .1))) (λ b. inr (omega (arith, b .0))) o));
+    surplus = rw e (drop-store K W (workEnd s d) l q f (⊎-elim (λ b. omega (arith, b .1)) (λ b. b .1) o));
+    size = ap length e ∙ length-store K l q f;
+  }
+
+  kept-write : (l w : List Float) (xs : List Float) → w ≡ write l (matrixAt s) xs → length xs ≤ d * d + 3 * d → DenseKept s d l w
+  kept-write l w xs e h = kept-store number number-lawful l w (matrixAt s) xs (e ∙ sym (store-number l (matrixAt s) xs)) (inr (omega arith, omega arith))
+
+  kept-kept : (l m w : List Float) → DenseKept s d l m → DenseKept s d m w → DenseKept s d l w
+  kept-kept l m w g h = record { terms = h .terms ∙ g .terms; points = h .points ∙ g .points; rows = h .rows ∙ g .rows; surplus = h .surplus ∙ g .surplus; size = h .size ∙ g .size }
+
+  segments-kept : (w : Weights) (t : List CameraTerm) (l l' : List Float) → DenseKept s d l l' → Segments s w t l → Segments s w t l'
+  segments-kept w t l l' g h = record { terms = g .terms ∙ h .terms; points = g .points ∙ h .points; rows = g .rows ∙ h .rows }
 
 -- what was written at p, of the length n
 part-written : (l m xs : List Float) (p n : ℕ) → m ≡ write l p xs → length xs ≡ n → p + n ≤ length l → part m p n ≡ xs
 part-written l m xs p n e h k = rw (e, ← h) (part-same l p xs (omega arith))
 
--- ---- the factor
+-- ---- the factor, and the solution of the right side
 
-pub factored : (net : Network) (a d : ℕ) (l w u ys : List Float) (e : ℕ) (r : Solve) → let p = matrixAt (net .graph .shape) in
-    Reduced net a d l → w ≡ write l p (matrix net a d) → e ≡ p + d * d → length ys ≡ length (midOf p (e - p) w) → ended r ys ≡ factor d (midOf p (e - p) w) → u ≡ putMid p (e - p) w ys → Factored net a d l u r
-factored net a d l w u ys e r g ew ee ey er eu =
-    let n = net .graph .shape .cameras in
-    let p = matrixAt (net .graph .shape) in
-    let room : p + d * d + 3 * d ≤ length l = g .room in
-    let la : length (matrix net a d) ≡ d * d = length-matrix net a d in
-    let lw : length w ≡ length l = ap length ew ∙ length-write l p (matrix net a d) in
-    let q : e - p ≡ d * d = omega arith in
-    let mid : midOf p (e - p) w ≡ matrix net a d = rw q (part-written l w (matrix net a d) p (d * d) ew la (omega arith)) in
-    let ly : length ys ≡ d * d = ey ∙ lent-length w p e (d * d) ee (omega arith) in
-    let fu : u ≡ write w p ys = eu ∙ lent-back w ys p e (d * d) ee (omega arith) ly in
-    let pu : part u p (d * d) ≡ ys = part-written w u ys p (d * d) fu ly (omega arith) in
-    let kw = kept-write n p d l l w p (matrix net a d) (kept-none n p d l) ew (inr (omega arith, omega arith)) (omega arith) in
-    record {
-      answer = rw pu (er ∙ ap (factor d) mid);
-      reduced = reduced-write net a d w (reduced-write net a d l g (matrix net a d) w ew) ys u fu;
-      kept = kept-write n p d l w u p ys kw fu (inr (omega arith, omega arith)) (omega arith);
-    }
+module _ (s : Shape) (d : ℕ) (l ys : List Float) (p q : ℕ) (r : Solve) (room : workEnd s d ≤ length l) (ep : p ≡ matrixAt s) (eq : q ≡ denseRightAt s d) where
+  pub factored : length ys ≡ length (midOf p (q - p) l) → ended r ys ≡ factor d (midOf p (q - p) l) → MatrixFactored s d l (putMid p (q - p) l ys) r
+  factored ey er =
+      let n = d * d in
+      let h : q ≡ p + n = omega arith in
+      let ly : length ys ≡ n = ey ∙ lent-length l p q n h (omega arith) in
+      let m : midOf p (q - p) l ≡ part l (matrixAt s) n = lent-part l p q n h ∙ ap (λ (t : ℕ). part l t n) ep in
+      let f : putMid p (q - p) l ys ≡ write l (matrixAt s) ys = lent-back l ys p q n h (omega arith) ly ∙ ap (λ (t : ℕ). write l t ys) ep in
+      record { answer = rw (part-written l _ ys (matrixAt s) n f ly (omega arith)) (er ∙ ap (factor d) m); kept = kept-write s d l _ ys f (omega arith) }
+
+  pub right-solved : let e = q + 3 * d in length ys ≡ length (midOf p (e - p) l) →
+      Substituted d (midOf p (e - p) l) ys r (back d (take (d * d) (midOf p (e - p) l)) (forward d (take (d * d) (midOf p (e - p) l)) (load vector (midOf p (e - p) l) (d * d) d))) →
+      RightSolved s d l (putMid p (e - p) l ys) r
+  unfolding substitution
+  right-solved ey g =
+      let n = d * d + 3 * d in
+      let e = q + 3 * d in
+      let h : e ≡ p + n = omega arith in
+      let ly : length ys ≡ n = ey ∙ lent-length l p e n h (omega arith) in
+      let m : midOf p (e - p) l ≡ part l (matrixAt s) n = lent-part l p e n h ∙ ap (λ (t : ℕ). part l t n) ep in
+      let f : putMid p (e - p) l ys ≡ write l (matrixAt s) ys = lent-back l ys p e n h (omega arith) ly ∙ ap (λ (t : ℕ). write l t ys) ep in
+      let z : part (putMid p (e - p) l ys) (matrixAt s) n ≡ ys = part-written l _ ys (matrixAt s) n f ly (omega arith) in
+      let x : load vector ys (d * d) d ≡ load vector (putMid p (e - p) l ys) (denseRightAt s d) d =
+      ap (λ (y : List Float). load vector y (d * d) d) (sym z) ∙ load-part vector (putMid p (e - p) l ys) (matrixAt s) n (d * d) d (omega arith) in
+      let a : take (d * d) (part l (matrixAt s) n) ≡ part l (matrixAt s) (d * d) = take-take (d * d) n _ (omega arith) in
+      let b : load vector (part l (matrixAt s) n) (d * d) d ≡ load vector l (denseRightAt s d) d = load-part vector l (matrixAt s) n (d * d) d (omega arith) in
+      record { answer = rw x at (rw (m, a, b) at (g .answer)); kept = kept-write s d l _ ys f (omega arith) }
 
 -- ---- the cameras
 
-module _ (n a d p : ℕ) (l : List Float) (first : rightAt n ≤ p) (room : p + d * d + 3 * d ≤ length l) where
-  abbrev right : List Vec3
-  right = field d (rightOf a (load term l 0 n))
+module _ (s : Shape) (a d : ℕ) (l w v : List Float) (r : Solve) (room : workEnd s d ≤ length l)
+    (ew : w ≡ store vector l (denseRightAt s d) (field d (rightOf a (load term l 0 (s .cameras))))) (g : RightSolved s d w v r) where
+  abbrev b : List Vec3
+  b = field d (rightOf a (load term l 0 (s .cameras)))
 
-  -- the buffer with the right side, and its dense segments
-  module _ (w ys v : List Float) (e : ℕ) (r : Solve) (ew : w ≡ store vector l (p + d * d) right) (ee : e ≡ p + d * d + 3 * d) (ey : length ys ≡ length (midOf p (e - p) w))
-      (g : Substituted d (midOf p (e - p) w) ys r (back d (take (d * d) (midOf p (e - p) w)) (forward d (take (d * d) (midOf p (e - p) w)) (load vector (midOf p (e - p) w) (d * d) d)))) (ev : v ≡ putMid p (e - p) w ys) where
-    size-right : length right ≡ d
-    size-right = length-field d (rightOf a (load term l 0 n))
+  kept-w : DenseKept s d l w
+  kept-w = let z : length b ≡ d = length-field d _ in kept-store s d vector vector-lawful l w (denseRightAt s d) b ew (inr (omega arith, omega arith))
 
-    size-w : length w ≡ length l
-    size-w = ap length ew ∙ length-store vector l (p + d * d) right
+  substituted : ended r (load vector v (denseRightAt s d) d) ≡ substitution d b (part l (matrixAt s) (d * d))
+  substituted =
+      let z : length b ≡ d = length-field d _ in
+      let x : load vector w (denseRightAt s d) d ≡ b = rw ew (load-store vector vector-lawful l (denseRightAt s d) b d z (omega arith)) in
+      let y : part w (matrixAt s) (d * d) ≡ part l (matrixAt s) (d * d) = rw ew (part-store vector vector-lawful l (denseRightAt s d) b (matrixAt s) (d * d) (inr (omega arith))) in
+      rw (x, y) at (g .answer)
 
-    size-ys : length ys ≡ d * d + 3 * d
-    size-ys = ey ∙ lent-length w p e (d * d + 3 * d) (omega arith) (omega (arith, size-w))
+  pub placed-stops : (k i : ℕ) → r ≡ Stopped k i → DenseSolved s d (camerasOf s a d (load term l 0 (s .cameras)) (part l (matrixAt s) (d * d))) l v r
+  placed-stops k i t =
+      let q : substitution d b (part l (matrixAt s) (d * d)) ≡ stopped k i = ended-stopped r _ _ k i substituted t in
+      record { answer = rw (q, t) refl; kept = kept-kept s d l w v kept-w (g .kept) }
 
-    whole : e - p ≡ d * d + 3 * d
-    whole = omega arith
+  pub placed-done : (u : List Float) → r ≡ Done → u ≡ store vector v (positionsAt s) (field (s .cameras) (cameraVector a (load vector v (denseRightAt s d) d))) →
+      DenseSolved s d (camerasOf s a d (load term l 0 (s .cameras)) (part l (matrixAt s) (d * d))) l u Done
+  unfolding spread
+  placed-done u t eu =
+      let n = s .cameras in
+      let x = cameraVector a (load vector v (denseRightAt s d) d) in
+      let z : length (field n x) ≡ n = length-field n x in
+      let lv : length v ≡ length l = g .kept .size ∙ kept-w .size in
+      let q : substitution d b (part l (matrixAt s) (d * d)) ≡ done (load vector v (denseRightAt s d) d) = ended-done r _ _ substituted t in
+      record {
+        answer = rw q (ap done (rw eu (load-store vector vector-lawful v (positionsAt s) (field n x) n z (omega arith))));
+        kept = kept-kept s d l v u (kept-kept s d l w v kept-w (g .kept)) (kept-store s d vector vector-lawful v u (positionsAt s) (field n x) eu (inl (omega arith, omega arith)));
+      }
 
-    lent-factor : take (d * d) (midOf p (e - p) w) ≡ part l p (d * d)
-    unfolding store
-    lent-factor =
-        rw whole
-        (take-take (d * d) (d * d + 3 * d) _ (omega arith)
-        ∙ rw ew (part-apart l (p + d * d) (flat vector right) p (d * d) (inr (omega arith))))
+-- ---- the factor and the cameras
 
-    lent-right : load vector (midOf p (e - p) w) (d * d) d ≡ right
-    lent-right =
-        rw whole
-        (load-part vector w p (d * d + 3 * d) (d * d) d (omega arith)
-        ∙ rw ew (load-store vector vector-lawful l (p + d * d) right d size-right (omega arith)))
+then-assoc : {A B C : Type 0} (x : Result A) (f : A → Result B) (g : B → Result C) → then (then x f) g ≡ then x (λ y. then (f y) g)
+then-assoc (done x) f g = refl
+then-assoc (stopped k i) f g = refl
 
-    solved : ended r (load vector ys (d * d) d) ≡ substitution d right (part l p (d * d))
-    unfolding substitution
-    solved = rw (lent-factor, lent-right) at (g .answer)
+module _ (s : Shape) (a d : ℕ) (l w : List Float) (f : Solve) (ed : d + 1 ≡ s .cameras) (g : MatrixFactored s d l w f) where
+  of-factor : camerasBy s a (load term l 0 (s .cameras)) (part l (matrixAt s) (d * d)) ≡ then (ended f (part w (matrixAt s) (d * d))) (camerasOf s a d (load term l 0 (s .cameras)))
+  unfolding camerasBy solution
+  of-factor =
+      let q : dimension s ≡ d = omega arith in
+      rw (q, ← g .answer) (then-assoc (ended f (part w (matrixAt s) (d * d))) (substitution d (field d (rightOf a (load term l 0 (s .cameras))))) (spread (s .cameras) a))
 
-    written : v ≡ write w p ys
-    written = ev ∙ lent-back w ys p e (d * d + 3 * d) (omega arith) (omega (arith, size-w)) size-ys
+  pub matrix-stops : (k i : ℕ) → f ≡ Stopped k i → DenseSolved s d (camerasBy s a (load term l 0 (s .cameras)) (part l (matrixAt s) (d * d))) l w f
+  matrix-stops k i t = record { answer = rw t (sym (rw t at of-factor)); kept = g .kept }
 
-    kept-v : Kept n p d l v
-    kept-v = kept-write n p d l w v p ys (kept-store n p d l l w (p + d * d) right (kept-none n p d l) ew (inr (omega arith, omega (arith, size-right))) first) written (inr (omega arith, omega (arith, size-ys))) first
-
-    pub placed-stops : (k i : ℕ) → r ≡ Stopped k i → Placed n a d p l v r
-    placed-stops k i t =
-        let q : substitution d right (part l p (d * d)) ≡ stopped k i = ended-stopped r (load vector ys (d * d) d) _ k i solved t in
-        record { answer = rw (q, t) refl; kept = kept-v }
-
-    pub placed-done : (u : List Float) → r ≡ Done → u ≡ store vector v (5 * n) (field n (spreadOf a (load vector v (p + d * d) d))) → Placed n a d p l u Done
-    unfolding spread
-    placed-done u t eu =
-        let x = load vector ys (d * d) d in
-        let q : substitution d right (part l p (d * d)) ≡ done x = ended-done r x _ solved t in
-        let lv : length v ≡ length l = ap length written ∙ length-write w p ys ∙ size-w in
-        let s : part v p (d * d + 3 * d) ≡ ys = part-written w v ys p (d * d + 3 * d) written size-ys (omega (arith, size-w)) in
-        let y : load vector v (p + d * d) d ≡ x = sym (load-part vector v p (d * d + 3 * d) (d * d) d (omega arith)) ∙ ap (λ (z : List Float). load vector z (d * d) d) s in
-        let f : u ≡ store vector v (5 * n) (field n (spreadOf a x)) = rw y at eu in
-        let m : length (field n (spreadOf a x)) ≡ n = length-field n (spreadOf a x) in
-        record {
-          answer = rw q (ap done (rw f (load-store vector vector-lawful v (5 * n) (field n (spreadOf a x)) n m (omega arith))));
-          kept = kept-store n p d l v u (5 * n) (field n (spreadOf a x)) kept-v f (inl (omega arith, omega arith)) first;
-        }
+  pub matrix-solved : (u : List Float) (r : Solve) → f ≡ Done → DenseSolved s d (camerasOf s a d (load term w 0 (s .cameras)) (part w (matrixAt s) (d * d))) w u r →
+      DenseSolved s d (camerasBy s a (load term l 0 (s .cameras)) (part l (matrixAt s) (d * d))) l u r
+  matrix-solved u r t h = record { answer = (rw (g .kept .terms) at (h .answer)) ∙ sym (rw t at of-factor); kept = kept-kept s d l w u (g .kept) (h .kept) }
 
 -- ---- the whole
 
-module _ (net : Network) (a d : ℕ) (ed : d ≡ dimension net) (ea : a ≡ anchor net) where
-  solution-stops : (k i : ℕ) → factor d (matrix net a d) ≡ stopped k i → stopped k i ≡ denseSolution net
-  unfolding denseSolution solution
-  solution-stops k i e = rw (← ed, ← ea, e) refl
+pub dense-done : (s : Shape) (ends offsets listed : List ℕ) (a : ℕ) (l w u : List Float) (r : Solve) → LinksSound (links s ends offsets listed) → workEnd s (s .cameras - 1) ≤ length l →
+    w ≡ write l (matrixAt s) (matrixBy (links s ends offsets listed) (weightsIn s l) (load term l 0 (s .cameras)) a (s .cameras - 1)) →
+    DenseSolved s (s .cameras - 1) (camerasBy s a (load term w 0 (s .cameras)) (part w (matrixAt s) ((s .cameras - 1) * (s .cameras - 1)))) w u r →
+    DenseSolved s (dimension s) (denseSolutionBy (links s ends offsets listed) (weightsIn s l) (load term l 0 (s .cameras)) a) l u r
+unfolding denseSolutionBy
+dense-done s ends offsets listed a l w u r K room ew h =
+    let d = dimension s in
+    let A = matrixBy (links s ends offsets listed) (weightsIn s l) (load term l 0 (s .cameras)) a d in
+    let z : length A ≡ d * d = length-matrix (links s ends offsets listed) K (weightsIn s l) (load term l 0 (s .cameras)) a d in
+    let k : DenseKept s d l w = kept-write s d l w A ew (omega arith) in
+    let p : part w (matrixAt s) (d * d) ≡ A = part-written l w A (matrixAt s) (d * d) ew z (omega arith) in
+    record { answer = rw (p, k .terms) at (h .answer); kept = kept-kept s d l w u k (h .kept) }
 
-  solution-goes : (L : List Float) → factor d (matrix net a d) ≡ done L → then (substitution d (field d (rightOf a (terms net))) L) (spread (net .graph .shape .cameras) a) ≡ denseSolution net
-  unfolding denseSolution solution
-  solution-goes L e = rw (← ed, ← ea, e) refl
-
-  pub solved-stops : (l w : List Float) (r : Solve) (k i : ℕ) → Factored net a d l w r → r ≡ Stopped k i → length w ≡ length l → Solved net l w r
-  solved-stops l w r k i g t h =
-      let q = ended-stopped r _ _ k i (g .answer) t in
-      record {
-        answer = rw t (solution-stops k i q);
-        segments = g .reduced .segments;
-        surplus = rw (← ed) (g .kept .surplus);
-        size = h;
-      }
-
-  pub solved-goes : (l w u : List Float) (s r : Solve) → Factored net a d l w s → s ≡ Done → Placed (net .graph .shape .cameras) a d (matrixAt (net .graph .shape)) w u r → length u ≡ length l → Solved net l u r
-  solved-goes l w u s r g t h k =
-      let q = ended-done s _ _ (g .answer) t in
-      record {
-        answer = (rw (g .reduced .segments .terms) at (h .answer)) ∙ solution-goes _ q;
-        segments = segments-kept net d w u (h .kept) (g .reduced .segments);
-        surplus = rw (← ed) (h .kept .surplus ∙ g .kept .surplus);
-        size = k;
-      }
+-- A buffer that holds the network's segments gives the network's own solution, and holds them still.
+pub dense-solved : (net : Network) (a : ℕ) (l l' : List Float) (r : Solve) → LinksSound (linksOf net) → Segments (net .shape) (weightsOf net) (terms net) l → a ≡ anchor net →
+    DenseSolved (net .shape) (dimension (net .shape)) (denseSolutionBy (linksOf net) (weightsIn (net .shape) l) (load term l 0 (net .shape .cameras)) a) l l' r →
+    DenseSolved (net .shape) (dimension (net .shape)) (denseSolution net) l l' r × Segments (net .shape) (weightsOf net) (terms net) l'
+unfolding denseSolutionBy denseSolution
+dense-solved net a l l' r K g ea h =
+    let s = net .shape in
+    let agree : AgreeOn s (weightsIn s l) (weightsOf net) = record {
+      row = λ i b. held-at l (effectiveAt s) (rows s) i (weightsOf net .row) (g .rows) b;
+      point = λ p b. held-at l (weightsAt s) (s .points) p (weightsOf net .point) (g .points) b;
+    } in
+    let m = matrix-same (linksOf net) K (weightsIn s l) (weightsOf net) (terms net) (anchor net) (dimension s) agree in
+    (record { answer = h .answer ∙ rw (ea, g .terms, m) refl; kept = h .kept }, segments-kept s (dimension s) (weightsOf net) (terms net) l l' (h .kept) g)

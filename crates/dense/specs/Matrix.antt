@@ -1,22 +1,20 @@
--- The reduced camera matrix of d = n - 1 rows, its lower triangle, row by row in a list of d × d numbers (document 01, 'Dense').
-use Prim.Native.Nat.{ℕ, suc, _+_, _-_, _*_, min, max}
+-- The reduced camera matrix of d = n - 1 rows, its lower triangle, row by row in a list of d × d numbers (document 01, 'Dense'; what the Rust's
+-- `factor_reduced_dense` assembles).
+use Prim.Native.Nat.{ℕ, _+_, _-_, _*_, min, max}
 use mathlib.Core.List.{List}
 use mathlib.Core.Bool.{cond}
 use lib.ListN.{getD, set, replicate}
-use lib.Ieee.{Float, nan, binary64, add, mul, div, neg, lt, ofBits}
+use lib.Ieee.{Float, nan, binary64, add, mul, div, neg, lt}
 use Rattle.field.specs.Vec.{null}
 use Rattle.field.specs.Count.{upto}
-use Rattle.network.specs.Network.{Network, first, second, listSize}
+use Rattle.network.specs.declared.Span.{Span}
+use Rattle.network.specs.Network.{Network, Links, linksOf, firstEnd, secondEnd, spanOf, rowAt}
 use Rattle.system.specs.declared.CameraTerm.{CameraTerm}
-use Rattle.system.specs.System.{tiny, effective, rowOf, pointWeight, terms, termAt}
+use Rattle.system.specs.System.{Weights, weightsOf, terms, termAt, tiny, ridge}
 use Rattle.dense.specs.declared.rows.DenseRow.{DenseRow}
 use Rattle.dense.specs.declared.rows.Row.{Row}
 use Rattle.dense.specs.declared.rows.Row.the-variants.{Anchor, Dense}
 use Rattle.dense.specs.Rows.{denseRow}
-
--- 1e-6, added to each diagonal
-abbrev pub ridge : Float
-ridge = ofBits binary64 0x3eb0c6f7a0b5ed8d
 
 -- the place of the entry of two rows: the greater is its row, the other its column
 abbrev pub lowerPlace : ℕ → DenseRow → DenseRow → ℕ
@@ -27,48 +25,71 @@ unfoldable pub setDiagonal : ℕ → Row → Float → List Float → List Float
 setDiagonal d Anchor v A = A
 setDiagonal d (Dense p) v A = set A (lowerPlace d p p) (add binary64 v ridge)
 
--- the diagonal of camera c, whose term is among ts
-abbrev pub diagonalStep : ℕ → ℕ → List CameraTerm → ℕ → List Float → List Float
-diagonalStep d a ts c = setDiagonal d (denseRow c a) (termAt ts c .diagonal)
-
 -- v added to the entry of two rows, in the lower triangle; nothing where one of them is the anchor's
 unfoldable pub couple : ℕ → Row → Row → Float → List Float → List Float
 couple d Anchor q v A = A
 couple d (Dense p) Anchor v A = A
 couple d (Dense p) (Dense q) v A = let k = lowerPlace d p q in set A k (add binary64 (getD A k nan) v)
 
+-- ---- a change of the matrix A by what the weights w and the terms ts say
+
+abbrev pub MatrixChange : Type 0
+MatrixChange = Weights → List CameraTerm → List Float → List Float
+
+-- k changes, one after another
+unfoldable pub times : (ℕ → MatrixChange) → ℕ → MatrixChange
+times f k w ts A = upto (λ i. f i w ts) k A
+
 -- -e1 × e2 / W, left to right
 abbrev pub shared : Float → Float → Float → Float
-shared e1 e2 w = div binary64 (mul binary64 (neg e1) e2) w
+shared e1 e2 t = div binary64 (mul binary64 (neg e1) e2) t
 
-module _ (net : Network) (a : ℕ) (d : ℕ) where
-  abbrev pub rowAt : ℕ → Row
-  rowAt camera = denseRow camera a
+-- the places of a point's list after the i-th
+abbrev pub placesAfter : Span → ℕ → Span
+placesAfter k i = record { first = k .first + i + 1; size = k .size - (i + 1) }
 
-  -- two bearings r and s of point p. Where both are of one camera, it is added once, on the diagonal.
-  abbrev pub pairStep : ℕ → ℕ → ℕ → List Float → List Float
-  pairStep p r s = couple d (rowAt (first (net .graph) r)) (rowAt (first (net .graph) s)) (shared (effective net r) (effective net s) (pointWeight net p))
+-- a is the anchor
+module _ (a d : ℕ) where
+  -- the diagonal of camera c
+  unfoldable pub diagonalStep : ℕ → MatrixChange
+  diagonalStep c w ts A = setDiagonal d (denseRow c a) (termAt ts c .diagonal) A
 
-  -- the bearing at place i of point p's list with each after it
-  abbrev pub afterStep : ℕ → ℕ → ℕ → List Float → List Float
-  afterStep p i k = pairStep p (rowOf net p i) (rowOf net p (suc i + k))
+  -- v added to the entry of cameras i and j (`add_dense_coupling`)
+  unfoldable pub coupleCameras : ℕ → ℕ → Float → MatrixChange
+  coupleCameras i j v w ts A = couple d (denseRow i a) (denseRow j a) v A
 
-  abbrev pub placeStep : ℕ → ℕ → List Float → List Float
-  placeStep p i = upto (afterStep p i) (listSize net p - suc i)
+  -- two bearings r and q of a point of weight t. Where both are of one camera, it is added once, on the diagonal.
+  unfoldable pub pairStep : List ℕ → Float → ℕ → ℕ → MatrixChange
+  pairStep ends t r q w = coupleCameras (firstEnd ends r) (firstEnd ends q) (shared (w .row r) (w .row q) t) w
 
-  -- point p's couplings, pair by pair in list order; a point whose weight is below 1e-12 has none
-  unfoldable pub pointCouplings : ℕ → List Float → List Float
-  pointCouplings p A = cond (lt (pointWeight net p) tiny) A (upto (placeStep p) (listSize net p) A)
+  -- bearing r with that at place j of such places
+  abbrev pub withStep : List ℕ → List ℕ → Float → ℕ → Span → ℕ → MatrixChange
+  withStep ends listed t r k j = pairStep ends t r (rowAt listed k j)
 
-  -- direction k: -e
-  abbrev pub directionCoupling : ℕ → List Float → List Float
-  directionCoupling k =
-      let r = net .graph .shape .bearings + k in
-      couple d (rowAt (first (net .graph) r)) (rowAt (second (net .graph) r)) (neg (effective net r))
+  -- the bearing at place i of such places with each after it
+  unfoldable pub placeStep : List ℕ → List ℕ → Float → Span → ℕ → MatrixChange
+  placeStep ends listed t k i = times (withStep ends listed t (rowAt listed k i) (placesAfter k i)) (placesAfter k i .size)
 
-  -- the cameras' diagonals in a matrix of +0.0, then the couplings point by point, then direction by direction
-  unfoldable pub matrix : List Float
-  matrix =
-      upto directionCoupling (net .graph .shape .directions)
-      (upto pointCouplings (net .graph .shape .points)
-      (upto (diagonalStep d a (terms net)) (net .graph .shape .cameras) (replicate (d * d) null)))
+  -- point p, pair by pair in list order; a point whose weight is below 1e-12 couples nothing
+  unfoldable pub pointStep : Links → ℕ → MatrixChange
+  pointStep L p w ts A =
+      let k = spanOf (L .offsets) p in
+      cond (lt (w .point p) tiny) A (times (placeStep (L .ends) (L .listed) (w .point p) k) (k .size) w ts A)
+
+  -- direction k, after b bearings: -e
+  unfoldable pub directionStep : ℕ → List ℕ → ℕ → MatrixChange
+  directionStep b ends k w = let r = b + k in coupleCameras (firstEnd ends r) (secondEnd ends r) (neg (w .row r)) w
+
+  -- the couplings, point by point, then direction by direction
+  unfoldable pub couplings : Links → MatrixChange
+  couplings L w ts A =
+      let s = L .shape in
+      times (directionStep (s .bearings) (L .ends)) (s .directions) w ts (times (pointStep L) (s .points) w ts A)
+
+-- the cameras' diagonals in a matrix of +0.0, then the couplings
+unfoldable pub matrixBy : Links → Weights → List CameraTerm → ℕ → ℕ → List Float
+matrixBy L w ts a d = couplings a d L w ts (times (diagonalStep a d) (L .shape .cameras) w ts (replicate (d * d) null))
+
+-- the network's own
+abbrev pub matrix : Network → ℕ → ℕ → List Float
+matrix net a d = matrixBy (linksOf net) (weightsOf net) (terms net) a d

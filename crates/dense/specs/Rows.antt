@@ -1,5 +1,5 @@
--- The rows of the dense system: 'the cameras without the anchor, in order' (document 01, 'Dense').
-use Prim.Native.Nat.{ℕ, _+_, _-_, _<_}
+-- The rows of the dense system: 'the cameras without the anchor, in order' (document 01, 'Dense'; the Rust's `reduced_index`).
+use Prim.Native.Nat.{ℕ, _+_, _-_}
 use mathlib.Core.Bool.{cond}
 use lib.Dec.{eqb, ltb}
 use Rattle.dense.specs.declared.rows.Row.{Row}
@@ -14,8 +14,3 @@ denseRow camera anchor =
 -- the camera of a row
 unfoldable pub cameraOf : ℕ → ℕ → ℕ
 cameraOf row anchor = cond (ltb row anchor) row (row + 1)
-
--- a row of a system of d rows
-abbrev pub Within : ℕ → Row → Type 0
-Within d Anchor = Unit
-Within d (Dense p) = p .0 < d

@@ -1,98 +1,95 @@
-// The dense solve: Cholesky factor and substitution of the reduced camera system.
+// The dense solve: Cholesky factor and substitution of the reduced camera system (the Rust's dense.rs).
 mod cameras;
+mod couplings;
 mod matrix;
 mod rows;
 
 use cameras::place_cameras;
 use cholesky::Solve;
 use cholesky::factor;
-use matrix::build_matrix;
+use couplings::couple_rows;
+use matrix::clear_matrix;
+use matrix::set_diagonals;
+use network::Shape;
+use system::work::dense_right_at;
+use system::work::matrix_at;
 ghost use mathlib.Core.Path.{_≡_};
-ghost use Prim.Native.Nat.{_-_};
-ghost use Rattle.network.specs.Network.{lent};
-ghost use Rattle.system.specs.System.{anchor as anchorOf};
-ghost use Rattle.dense.specs.Dense.{Reduced, Factored, Solved};
+ghost use Prim.Native.Nat.{_*_, _<_, _≤_};
+ghost use lib.ListN.{length};
+ghost use Rattle.field.specs.Buffer.{part, write, load};
+ghost use Rattle.network.specs.Network.{links};
+ghost use Rattle.network.specs.inner.Sound.{ShapeSound, LinksSound};
+ghost use Rattle.system.specs.Work.{term, matrixAt, workEnd};
+ghost use Rattle.system.specs.inner.Formed.{weightsIn};
+ghost use Rattle.dense.specs.Matrix.{matrixBy};
+ghost use Rattle.dense.specs.Dense.{dimension, camerasBy, denseSolutionBy};
+ghost use Rattle.dense.specs.inner.Held.{DenseRoom, MatrixFactored, DenseSolved};
 
-// Builds the matrix of d rows and factors it, in its segment of the work buffer.
-fn factor_matrix(
-    n: usize,
-    m: usize,
-    b: usize,
-    e: usize,
+// The matrix of d rows, in its segment of the work buffer, of the weights and the terms that stand there.
+fn build_matrix(
+    s: Shape,
     ends: &[usize],
-    rays: &[f64],
-    weights: &[f64],
-    scales: &[f64],
-    points: &[f64],
     offsets: &[usize],
-    rows: &[usize],
+    listed: &[usize],
     anchor: usize,
     d: usize,
     work: &mut [f64],
-) -> Solve
-    requires { ⌜ Reduced (lent n m b e (now ends) (now rays) (now weights) (now scales) (now points) (now offsets) (now rows)) anchor d (now work) ⌝ }
-    ensures { λ r. ⌜ Factored (lent n m b e (now (ends .entry)) (now (rays .entry)) (now (weights .entry)) (now (scales .entry)) (now (points .entry)) (now (offsets .entry)) (now (rows .entry))) anchor d (now (work .entry)) (now (work .exit)) r ⌝ }
+)
+    requires { ⌜ LinksSound (links s (now ends) (now offsets) (now listed)) ⌝ }
+    requires { ⌜ DenseRoom s d (length (now work)) ⌝ }
+    requires { ⌜ anchor < s .cameras ⌝ }
+    ensures { λ r. ⌜ now (work .exit) ≡ write (now (work .entry)) (matrixAt s)
+        (matrixBy (links s (now (ends .entry)) (now (offsets .entry)) (now (listed .entry)))
+        (weightsIn s (now (work .entry))) (load term (now (work .entry)) 0 (s .cameras)) anchor d) ⌝ }
 {
-    build_matrix(
-        n,
-        m,
-        b,
-        e,
-        ends,
-        rays,
-        weights,
-        scales,
-        points,
-        offsets,
-        rows,
-        anchor,
-        d,
-        work,
-    );
-    let at = 23 * n + 4 * m + (b + e);
-    let end = at + d * d;
+    clear_matrix(s, d, work);
+    set_diagonals(s, anchor, d, work);
+    couple_rows(s, ends, offsets, listed, anchor, d, work);
+}
+
+// The matrix factored where it stands.
+fn factor_matrix(s: Shape, d: usize, work: &mut [f64]) -> Solve
+    requires { ⌜ ShapeSound s ⌝ }
+    requires { ⌜ DenseRoom s d (length (now work)) ⌝ }
+    ensures { λ r. ⌜ MatrixFactored s d (now (work .entry)) (now (work .exit)) r ⌝ }
+{
+    let at = matrix_at(s);
+    let end = dense_right_at(s, d);
     factor(&mut work[at..end], d)
 }
 
-// Solves the dense system that is formed in the work buffer. Where it is done, the positions' segment holds the cameras.
-pub fn solve_dense(
-    n: usize,
-    m: usize,
-    b: usize,
-    e: usize,
-    ends: &[usize],
-    rays: &[f64],
-    weights: &[f64],
-    scales: &[f64],
-    points: &[f64],
-    offsets: &[usize],
-    rows: &[usize],
-    anchor: usize,
-    work: &mut [f64],
-) -> Solve
-    requires { ⌜ Reduced (lent n m b e (now ends) (now rays) (now weights) (now scales) (now points) (now offsets) (now rows)) anchor (n - 1) (now work) ⌝ }
-    requires { ⌜ anchor ≡ anchorOf (lent n m b e (now ends) (now rays) (now weights) (now scales) (now points) (now offsets) (now rows)) ⌝ }
-    ensures { λ r. ⌜ Solved (lent n m b e (now (ends .entry)) (now (rays .entry)) (now (weights .entry)) (now (scales .entry)) (now (points .entry)) (now (offsets .entry)) (now (rows .entry))) (now (work .entry)) (now (work .exit)) r ⌝ }
+// The cameras of the matrix that stands in its segment, wherever its couplings come from.
+fn solve_matrix(s: Shape, anchor: usize, d: usize, work: &mut [f64]) -> Solve
+    requires { ⌜ ShapeSound s ⌝ }
+    requires { ⌜ DenseRoom s d (length (now work)) ⌝ }
+    requires { ⌜ anchor < s .cameras ⌝ }
+    ensures { λ r. ⌜ DenseSolved s d (camerasBy s anchor (load term (now (work .entry)) 0 (s .cameras))
+        (part (now (work .entry)) (matrixAt s) (d * d))) (now (work .entry)) (now (work .exit)) r ⌝ }
 {
-    let d = n - 1;
-    let step = factor_matrix(
-        n,
-        m,
-        b,
-        e,
-        ends,
-        rays,
-        weights,
-        scales,
-        points,
-        offsets,
-        rows,
-        anchor,
-        d,
-        work,
-    );
+    let step = factor_matrix(s, d, work);
     let Solve::Done = step else {
         return step;
     };
-    place_cameras(n, anchor, d, 23 * n + 4 * m + (b + e), work)
+    place_cameras(s, anchor, d, work)
+}
+
+// Solves the dense system that stands in the work buffer (`solve_reduced_dense`). Where it is done, the positions' segment holds the cameras.
+pub fn solve_dense(
+    s: Shape,
+    ends: &[usize],
+    offsets: &[usize],
+    listed: &[usize],
+    anchor: usize,
+    work: &mut [f64],
+) -> Solve
+    requires { ⌜ LinksSound (links s (now ends) (now offsets) (now listed)) ⌝ }
+    requires { ⌜ (anchor < s .cameras) × (workEnd s (dimension s) ≤ length (now work)) ⌝ }
+    ensures { λ r. ⌜ DenseSolved s (dimension s)
+        (denseSolutionBy (links s (now (ends .entry)) (now (offsets .entry)) (now (listed .entry)))
+        (weightsIn s (now (work .entry))) (load term (now (work .entry)) 0 (s .cameras)) anchor)
+        (now (work .entry)) (now (work .exit)) r ⌝ }
+{
+    let d = s.cameras - 1;
+    build_matrix(s, ends, offsets, listed, anchor, d, work);
+    solve_matrix(s, anchor, d, work)
 }

@@ -2,7 +2,8 @@
 ghost use mathlib.Core.Path.{_≡_};
 ghost use Rattle.dense.specs.Rows.{denseRow};
 
-// A row of the dense system. Rows and cameras are both counted from 0 and kept apart: a row is made only here, of a camera and the anchor.
+// A row of the dense system. Rows and cameras are both counted from 0 and kept apart: a row is made only here, of a camera and the anchor
+// (the Rust's `reduced_index`, with usize::MAX at the anchor).
 pub struct DenseRow(usize);
 
 // The row of a camera: the anchor has none.

@@ -86,10 +86,10 @@ module _ (s : Shape) (a : ℕ) (l : List Float) (R : FieldsFit s (length l)) whe
   pub moved-done : (r : Round) (curvature alpha bound sums v : Vec3) (active : Active) (p q p' q' : ℕ) (l1 l2 : List Float) →
       alpha ≡ quotient (r .old) curvature → p ≡ positionsAt s → q ≡ searchAt s → p' ≡ residualAt s → q' ≡ appliedAt s →
       FieldStepped s a (add binary64) (r .active) alpha p q l l1 v → FieldStepped s a (sub binary64) (r .active) alpha p' q' l1 l2 sums →
-      bound ≡ boundOf (rightSums s a l) → active ≡ staysActive bound (r .active) sums →
+      active ≡ staysActive bound (r .active) sums → bound ≡ boundOf (rightSums s a l) →
       Moved s a r curvature l l2 (record { old = r .old; active = active; count = r .count + 1 })
   unfolding moved squareSum
-  moved-done r curvature alpha bound sums v active p q p' q' l1 l2 e1 ep eq ep' eq' D D' eb ea =
+  moved-done r curvature alpha bound sums v active p q p' q' l1 l2 e1 ep eq ep' eq' D D' ea eb =
       let x = steppedField n a (add binary64) (r .active) alpha (load vector l (positionsAt s) n) (load vector l (searchAt s) n) in
       let y = steppedField n a (sub binary64) (r .active) alpha (load vector l1 (residualAt s) n) (load vector l1 (appliedAt s) n) in
       let e2 : l1 ≡ store vector l (positionsAt s) x = rw (ep, eq) at (D .field) in

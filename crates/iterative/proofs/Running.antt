@@ -12,13 +12,16 @@ use Rattle.field.specs.declared.Place.{Place}
 use Rattle.field.specs.declared.Place.the-variants.{At, Nowhere}
 use Rattle.network.specs.Network.{Links, links}
 use Rattle.network.specs.declared.Shape.{Shape}
+use Rattle.system.specs.Work.{matrixAt}
+use Rattle.field.specs.declared.Vec3.{Vec3}
+use lib.ListN.{length}
 use Rattle.iterative.proofs.Kept.{kept-same, kept-then, problem-in-kept}
-use Rattle.iterative.specs.Method.{Run, State, any, badCurvature, badProduct, component, continued, ended, failed, inner, moved, next, precondition, redirected, round, running, unless}
+use Rattle.iterative.specs.Method.{Run, State, any, badCurvature, boundOf, badProduct, component, continued, ended, failed, inner, moved, next, precondition, redirected, round, running, unless}
 use Rattle.iterative.specs.Problem.{Problem, mostRounds}
 use Rattle.iterative.specs.declared.Round.{Round}
 use Rattle.iterative.specs.declared.Step.{Step}
 use Rattle.iterative.specs.declared.Step.the-variants.{Ended, Failed, Running}
-use Rattle.iterative.specs.inner.Solver.{Iterated, Rounded, SystemKept, begun, problemIn, roundsFrom, runIn, stateIn}
+use Rattle.iterative.specs.inner.Solver.{Iterated, Rounded, SystemKept, begun, problemIn, rightSums, roundsFrom, runIn, stateIn}
 
 -- ---- a round that goes on is counted
 
@@ -86,6 +89,20 @@ module _ (s : Shape) (ends offsets listed : List ℕ) (a : ℕ) (l : List Float)
   unfolding roundsFrom
   rounds-none h = record { count = h; run = upto-zero _ _; kept = kept-same s l }
 
+  -- what a round needs of the ones before
+  module _ (l1 : List Float) (r : Round) (k : ℕ) (R : Rounds s ends offsets listed a l first k l1 r) where
+    pub rounds-bound : (bound : Vec3) → bound ≡ boundOf (rightSums s a l) → bound ≡ boundOf (rightSums s a l1)
+    rounds-bound bound e = e ∙ rw (R .kept .right)
+
+    pub rounds-room : matrixAt s ≤ length l → matrixAt s ≤ length l1
+    rounds-room h = rw (R .kept .outside .size) h
+
+    pub rounds-size : length l1 ≡ length l
+    rounds-size = R .kept .outside .size
+
+    pub rounds-count : (m : ℕ) → k < m → m ≤ 4000 → r .count < 4000
+    rounds-count m h b = rw (R .count) (omega arith)
+
   module _ (l1 l2 : List Float) (r : Round) (k : ℕ) (x : Step) (R : Rounds s ends offsets listed a l first k l1 r) (D : Rounded s (problemIn (links s ends offsets listed) a l1) r l1 l2 x) where
     own : Rounded s P r l1 l2 x
     own = subst (λ (Q : Problem). Rounded s Q r l1 l2 x) (problem-in-kept L a l l1 (R .kept)) D
@@ -99,22 +116,29 @@ module _ (s : Shape) (ends offsets listed : List ℕ) (a : ℕ) (l : List Float)
           kept = kept-then (R .kept) (own .kept);
         }
 
+    pub stopped-size : length l2 ≡ length l
+    stopped-size = own .kept .outside .size ∙ R .kept .outside .size
+
     -- a round that does not go on
     over : (m : ℕ) → k < m → (y : Step) → x ≡ y → next P (runIn s l2 y) ≡ runIn s l2 y → runIn s l2 y ≡ roundsFrom P m (running (stateIn s l first))
     over m h y e f = sym (rounds-stay P (k + 1) m _ (runIn s l2 y) f (rounds-more P k _ (runIn s l2 y) (stateIn s l1 r) (R .run) (rw e at (own .run))) (omega arith))
 
-    pub rounds-stopped : (m : ℕ) → m ≡ mostRounds (s .cameras) → k < m → ((t : Round) → x ≡ Running t → ⊥) → Iterated s P (running (stateIn s l first)) l l2 x
-    rounds-stopped m em h f = record { run = rw (← em) (go x refl f); kept = kept-then (R .kept) (own .kept) }
-      where
-        go : (y : Step) → x ≡ y → ((t : Round) → y ≡ Running t → ⊥) → runIn s l2 y ≡ roundsFrom P m (running (stateIn s l first))
-        go (Failed i j) e g = over m h (Failed i j) e refl
-        go (Ended t) e g = over m h (Ended t) e refl
-        go (Running t) e g = absurd (g t refl)
+    stopped : (m : ℕ) → m ≡ mostRounds (s .cameras) → k < m → (y : Step) → x ≡ y → next P (runIn s l2 y) ≡ runIn s l2 y → Iterated s P (running (stateIn s l first)) l l2 x
+    stopped m em h y e f = record { run = rw (← em, e) (over m h y e f); kept = kept-then (R .kept) (own .kept) }
+
+    pub rounds-failed : (m i j : ℕ) → m ≡ mostRounds (s .cameras) → k < m → x ≡ Failed i j → Iterated s P (running (stateIn s l first)) l l2 x
+    rounds-failed m i j em h e = stopped m em h (Failed i j) e refl
+
+    pub rounds-done : (m : ℕ) (t : Round) → m ≡ mostRounds (s .cameras) → k < m → x ≡ Ended t → Iterated s P (running (stateIn s l first)) l l2 x
+    rounds-done m t em h e = stopped m em h (Ended t) e refl
 
   pub rounds-ended : (l1 : List Float) (r : Round) (k m : ℕ) → Rounds s ends offsets listed a l first k l1 r → m ≡ mostRounds (s .cameras) → k ≤ m → m ≤ k → Iterated s P (running (stateIn s l first)) l l1 (Running r)
   rounds-ended l1 r k m R e b c = let q : k ≡ mostRounds (s .cameras) = omega arith in record { run = sym (rw q at (R .run)); kept = R .kept }
 
   -- ---- with a first round, or none
+
+  pub bound-right : (sums bound : Vec3) → bound ≡ boundOf sums → sums ≡ rightSums s a l → bound ≡ boundOf (rightSums s a l)
+  bound-right sums bound e f = rw (e, f)
 
   pub iterated-begun : (b : Bool) (l1 : List Float) (x : Step) → b ≡ any (first .active) → b ≡ true → Iterated s P (running (stateIn s l first)) l l1 x → Iterated s P (begun (stateIn s l first)) l l1 x
   iterated-begun b l1 x e h I = let q : any (first .active) ≡ true = sym e ∙ h in record { run = rw q (I .run); kept = I .kept }

@@ -1,8 +1,9 @@
 -- The start, the end, and the whole solve, from what the calls ensure. Assumes nothing.
 use mathlib.Core.Path.{ap, refl, subst, sym, _∙_, _≡_}
 use mathlib.Core.Logic.{inl, inr}
+use mathlib.Core.Bool.{Bool}
 use mathlib.Core.List.{List}
-use Prim.Native.Nat.{ℕ, _≤_}
+use Prim.Native.Nat.{ℕ, _+_, _<_, _≤_}
 use native.Mathlib.Omega.{arith}
 use lib.ListN.{length}
 use lib.Ieee.{Float}
@@ -211,6 +212,26 @@ module _ (s : Shape) (ends offsets listed : List ℕ) (a : ℕ) (l : List Float)
         positions = λ t u. C .kept .positions ∙ closed-positions own s l2 x t (sym q ∙ u);
         outside = outside-then (S .opened .outside) (outside-then (I .kept .outside) (C .kept .kept .outside));
       }
+
+-- where the bad diagonal was found
+pub bad-place : (n : ℕ) (p : Place) (f : ℕ → Bool) (i size : ℕ) → p ≡ lowest f n → p ≡ At i → n ≤ 4096 → termPlace n ≤ size → (i < 4096) × (termPlace (i + 1) ≤ size)
+bad-place n p f i size e h few room = let b = found f n i (sym e ∙ h) .1 in (omega (arith, few, b), omega (arith, b, room))
+
+pub none-bad : (p : Place) (f : ℕ → Bool) (n : ℕ) → p ≡ lowest f n → p ≡ Nowhere → lowest f n ≡ Nowhere
+none-bad p f n e h = sym e ∙ h
+
+-- what the rounds and the end need of the calls before
+pub started-room : (s : Shape) (a : ℕ) (l l1 : List Float) (v : Vec3) (r : Round) → Started s a l l1 v r → matrixAt s ≤ length l → matrixAt s ≤ length l1
+started-room s a l l1 v r S h = rw (S .opened .outside .size) h
+
+pub started-count : (s : Shape) (a : ℕ) (l l1 : List Float) (v : Vec3) (r : Round) → Started s a l l1 v r → r .count ≡ 0
+started-count s a l l1 v r S = ap (λ (x : Round). x .count) (S .round)
+
+pub iterated-room : (s : Shape) (P : Problem) (x : Run) (l1 l2 : List Float) (t : Step) → Iterated s P x l1 l2 t → matrixAt s ≤ length l1 → matrixAt s ≤ length l2
+iterated-room s P x l1 l2 t I h = rw (I .kept .outside .size) h
+
+pub iterated-sums : (s : Shape) (P : Problem) (x : Run) (l1 l2 : List Float) (t : Step) (a : ℕ) (v : Vec3) → Iterated s P x l1 l2 t → v ≡ rightSums s a l1 → v ≡ rightSums s a l2
+iterated-sums s P x l1 l2 t a v I h = h ∙ rw (I .kept .right)
 
 -- where the network's system stands in the buffer, the problem is the network's
 pub problem-held : (net : Network) (l : List Float) (a : ℕ) → LinksSound (linksOf net) → Segments (net .shape) (weightsOf net) (terms net) l → a ≡ anchor net →

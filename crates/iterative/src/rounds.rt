@@ -176,10 +176,11 @@ fn rounds(
     let mut k = 0usize;
     while k < most {
         let x = round(s, ends, offsets, listed, work, anchor, bound, r);
-        let Step::Running(t) = x else {
-            return x;
-        };
-        r = t;
+        match x {
+            Step::Failed(_, _) => return x,
+            Step::Ended(_) => return x,
+            Step::Running(t) => r = t,
+        }
         k += 1;
     }
     Step::Running(r)

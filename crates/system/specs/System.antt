@@ -18,7 +18,7 @@ use Rattle.network.specs.Network.{Network, rows, firstEnd, secondEnd, isBearing
 use Rattle.network.specs.Lists.{none}
 use Rattle.system.specs.declared.CameraTerm.{CameraTerm}
 
--- 1e-12, 1 and -1
+-- 1e-12; 1e-6, added to each diagonal (`RIDGE`); 1 and -1
 abbrev pub tiny : Float
 tiny = ofBits binary64 0x3d719799812dea11
 

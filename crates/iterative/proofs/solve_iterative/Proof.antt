@@ -1,3 +1,5 @@
+use Rattle.iterative.proofs.Solving.{bad-place, none-bad, solved-bad}
+use native.Mathlib.Omega.{arith}
 use borrow.Author.Needs.{needs}
 use Rattle.iterative.proofs.solve_iterative.Statement.{statement}
 use Rattle.iterative.proofs.solve_iterative.Tie as tie
@@ -8,10 +10,10 @@ solve-iterative-spec =
     (tie.spec
     (λ c κs. search needs)
     (λ c. search needs)
-    (λ c κs. ?)  -- diagonal-number-requires
+    (λ c κs. let k = c .before .before in bad-place _ _ _ _ _ (k .before .before .find-bad-diagonal .ensures) (k .bad .given .1) (omega arith) (omega arith))
     (λ c. search needs)
-    (λ c κs. ?)  -- run-requires
+    (λ c κs. (search needs, (search needs, search none-bad)))
     (λ c. search needs)
-    (λ c. ?)  -- returns
+    (λ c. search solved-bad)
     (λ c. search needs)
     (λ c. search needs))

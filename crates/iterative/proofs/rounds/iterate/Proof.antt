@@ -1,3 +1,4 @@
+use Rattle.iterative.proofs.Running.{bound-right, iterated-begun, iterated-none}
 use borrow.Author.Needs.{needs}
 use Rattle.iterative.proofs.rounds.iterate.Statement.{statement}
 use Rattle.iterative.proofs.rounds.iterate.Tie as tie
@@ -8,7 +9,7 @@ iterate-spec =
     (tie.spec
     (λ c κs. search needs)
     (λ c κs. search needs)
-    (λ c κs. ?)  -- rounds-requires
+    (λ c κs. (search needs, (search needs, (search bound-right, search needs))))
     (λ c. search needs)
-    (λ c. ?)  -- returns
-    (λ c. ?))  -- returns-2
+    (λ c. search iterated-begun)
+    (λ c. search iterated-none))

@@ -24,4 +24,4 @@ move-along-spec =
         let f = h .before .before .before .before in
         let pre = f .before .before .before .before .before .pre in
         moved-done _ _ _ (pre .0) _ _ _ _ _ _ _ _ _ _ _ _ _ (f .quotient .ensures) (h .before .before .positions-at .ensures) (h .before .search-at .ensures)
-            (k .before .before .residual-at .ensures) (k .before .applied-at .ensures) (h .step-field .ensures) (k .step-field2 .ensures) (pre .1) (c .stay-active .ensures)))
+            (k .before .before .residual-at .ensures) (k .before .applied-at .ensures) (h .step-field .ensures) (k .step-field2 .ensures) (c .stay-active .ensures) (pre .1 .0)))

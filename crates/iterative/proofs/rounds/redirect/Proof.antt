@@ -25,4 +25,4 @@ redirect-spec =
         let f = h .before .before .before in
         let g = f .before .before .before in
         redirect-running _ _ _ (g .before .before .before .before .pre) _ _ _ _ _ (f .before .residual-at .ensures) (g .preconditioned-at .ensures) (f .precondition .ensures) _ _ _ _
-            (h .find-bad-product .ensures) (search needs) (k .before .search-at .ensures) (k .before .before .before .quotient .ensures) (k .update-search .ensures)))
+            (h .find-bad-product .ensures) (k .before .before .before .before .enum-told .given .1) (k .before .search-at .ensures) (k .before .before .before .quotient .ensures) (k .update-search .ensures)))

@@ -1,6 +1,6 @@
 use Prim.Native.Nat.{_≤_, _-_}
-use Rattle.iterative.proofs.Running.{Rounds, rounds-none, rounds-next, rounds-stopped, rounds-ended}
 use native.Mathlib.Omega.{arith}
+use Rattle.iterative.proofs.Running.{Rounds, rounds-bound, rounds-count, rounds-done, rounds-ended, rounds-failed, rounds-next, rounds-none, rounds-room, rounds-size, stopped-size}
 use borrow.Author.Needs.{needs}
 use Rattle.iterative.proofs.rounds.rounds.Statement.{statement}
 use Rattle.iterative.proofs.rounds.rounds.Tie as tie
@@ -19,12 +19,16 @@ rounds-spec =
     μ-loop
     (λ c κs. search needs)
     (λ c. (omega arith, search rounds-none))
-    (λ c κs. ?)
+    (λ c κs. (search needs, (search rounds-room, (search rounds-bound, search rounds-count))))
     (λ c. search needs)
-    (λ c. c .before .loop .inv .2)
-    (λ c. search rounds-stopped)
+    (λ c. search stopped-size)
+    (λ c. search rounds-failed)
+    (λ c. search needs)
+    (λ c. search stopped-size)
+    (λ c. search rounds-done)
+    (λ c. search needs)
     (λ c. omega arith)
     (λ c. omega arith)
     (λ c. (omega arith, search rounds-next))
-    (λ c. ?)
+    (λ c. search rounds-size)
     (λ c. search rounds-ended))
