@@ -1,7 +1,7 @@
--- What each entry point does, from what the functions that it calls ensure: `s` is the shape that it makes of n, m, b, e, `x` the first number of
--- its report. Assumes nothing.
+-- What each entry point does, from what the functions that it calls ensure: s is the shape that it makes of its counts, s' that of its contract,
+-- x the first number of its report. Assumes nothing.
 use Prim.Native.Nat.{ℕ}
-use mathlib.Core.Path.{_≡_, refl, subst, _∙_}
+use mathlib.Core.Path.{_≡_, refl, _∙_}
 use mathlib.Core.List.{List}
 use mathlib.Core.Bool.{Bool}
 use lib.ListN.{length, set}
@@ -50,69 +50,45 @@ counted-of old e h = e ∙ rw h
 
 -- ---- the graph
 
-pub connected-done : {n m b e code x : ℕ} {s : Shape} {ends nodes nodes' report report' : List ℕ} {weights : List Float} {answer : Connectivity} →
-    s ≡ shape n m b e → ConnectivityCall (graph s ends weights) answer nodes nodes' →
+pub connected-done : {code x : ℕ} {s s' : Shape} {ends nodes nodes' report report' : List ℕ} {weights : List Float} {answer : Connectivity} →
+    s ≡ s' → ConnectivityCall (graph s ends weights) answer nodes nodes' →
     x ≡ connectivityReport answer → report' ≡ set report 0 x → code ≡ connectivityCode answer →
-    ConnectedCall (graph (shape n m b e) ends weights) code nodes nodes' report report'
-connected-done {ends = ends} {nodes} {nodes'} {weights = weights} {answer} h call p q k = record {
-  answer = answer;
-  call = subst (λ (t : Shape). ConnectivityCall (graph t ends weights) answer nodes nodes') h call;
-  coded = k;
-  reported = rw p at q;
-}
+    ConnectedCall (graph s' ends weights) code nodes nodes' report report'
+connected-done h call p q k = record { answer = _; call = rw h at call; coded = k; reported = rw p at q }
 
-pub parts-done : {n m b e code x : ℕ} {s : Shape} {ends nodes nodes' labels labels' report report' : List ℕ} {weights : List Float}
-    {answer : Listing} → s ≡ shape n m b e → ListingCall (graph s ends weights) answer nodes nodes' labels labels' →
+pub parts-done : {code x : ℕ} {s s' : Shape} {ends nodes nodes' labels labels' report report' : List ℕ} {weights : List Float}
+    {answer : Listing} → s ≡ s' → ListingCall (graph s ends weights) answer nodes nodes' labels labels' →
     x ≡ listingReport answer → report' ≡ set report 0 x → code ≡ listingCode answer →
-    PartsCall (graph (shape n m b e) ends weights) code nodes nodes' labels labels' report report'
-parts-done {ends = ends} {nodes} {nodes'} {labels} {labels'} {weights = weights} {answer} h call p q k = record {
-  answer = answer;
-  call = subst (λ (t : Shape). ListingCall (graph t ends weights) answer nodes nodes' labels labels') h call;
-  coded = k;
-  reported = rw p at q;
-}
+    PartsCall (graph s' ends weights) code nodes nodes' labels labels' report report'
+parts-done h call p q k = record { answer = _; call = rw h at call; coded = k; reported = rw p at q }
 
 -- ---- the length of the work buffer
 
-pub length-done : (n m b e route limit : ℕ) {code x : ℕ} {s : Shape} {report report' : List ℕ} {answer : Length} →
-    s ≡ shape n m b e → answer ≡ lengthOf s route limit →
+pub length-done : (route limit : ℕ) {code x : ℕ} {s s' : Shape} {report report' : List ℕ} {answer : Length} →
+    s ≡ s' → answer ≡ lengthOf s route limit →
     x ≡ lengthReport answer → report' ≡ set report 0 x → code ≡ lengthCode answer →
-    LengthCall (lengthOf (shape n m b e) route limit) code report report'
-length-done n m b e route limit h a p q k =
+    LengthCall (lengthOf s' route limit) code report report'
+length-done route limit h a p q k =
     let f = rw h at a in
     record { coded = rw f at k; reported = rw (rw f at p) at q }
 
 -- ---- dots and scales
 
-pub dots-done : {n m b e code x room : ℕ} {s : Shape} {ends offsets listed report report' : List ℕ}
-    {rays weights scales positions current trial out out' : List Float} {mark : Bool} {answer : Verdict} → s ≡ shape n m b e →
+pub dots-done : {code x room : ℕ} {s s' : Shape} {ends offsets listed report report' : List ℕ}
+    {rays weights scales positions current trial out out' : List Float} {mark : Bool} {answer : Verdict} → s ≡ s' →
     DotsFilled (placed (network s ends rays weights scales positions offsets listed) current trial mark room) answer out out' →
     x ≡ verdictReport answer → report' ≡ set report 0 x → code ≡ verdictCode answer →
-    DotsCall (placed (network (shape n m b e) ends rays weights scales positions offsets listed) current trial mark room)
+    DotsCall (placed (network s' ends rays weights scales positions offsets listed) current trial mark room)
     code out out' report report'
-dots-done {room = room} {ends = ends} {offsets} {listed} {rays = rays} {weights} {scales} {positions} {current} {trial} {out} {out'} {mark} {answer}
-    h call p q k = record {
-      answer = answer;
-      call = subst (λ (t : Shape). DotsFilled (placed (network t ends rays weights scales positions offsets listed) current trial mark room) answer out out')
-          h call;
-      coded = k;
-      reported = rw p at q;
-    }
+dots-done h call p q k = record { answer = _; call = rw h at call; coded = k; reported = rw p at q }
 
-pub scales-done : {n m b e code x room : ℕ} {s : Shape} {ends offsets listed report report' : List ℕ}
-    {rays weights scales positions current trial out out' : List Float} {mark : Bool} {answer : Verdict} → s ≡ shape n m b e →
+pub scales-done : {code x room : ℕ} {s s' : Shape} {ends offsets listed report report' : List ℕ}
+    {rays weights scales positions current trial out out' : List Float} {mark : Bool} {answer : Verdict} → s ≡ s' →
     ScalesFilled (placed (network s ends rays weights scales positions offsets listed) current trial mark room) answer out out' →
     x ≡ verdictReport answer → report' ≡ set report 0 x → code ≡ verdictCode answer →
-    ScalesCall (placed (network (shape n m b e) ends rays weights scales positions offsets listed) current trial mark room)
+    ScalesCall (placed (network s' ends rays weights scales positions offsets listed) current trial mark room)
     code out out' report report'
-scales-done {room = room} {ends = ends} {offsets} {listed} {rays = rays} {weights} {scales} {positions} {current} {trial} {out} {out'} {mark} {answer}
-    h call p q k = record {
-      answer = answer;
-      call = subst (λ (t : Shape). ScalesFilled (placed (network t ends rays weights scales positions offsets listed) current trial mark room) answer out out')
-          h call;
-      coded = k;
-      reported = rw p at q;
-    }
+scales-done h call p q k = record { answer = _; call = rw h at call; coded = k; reported = rw p at q }
 
 -- ---- the solve
 
@@ -123,25 +99,18 @@ solve-unreported f = record {
   otherwise = λ h. record { coded = refl; workKept = refl; camerasKept = refl; pointsKept = refl; reportKept = refl };
 }
 
-pub solve-done : {n m b e route limit code t u v : ℕ} {s : Shape} {ends offsets listed report report' : List ℕ}
+pub solve-done : {route limit code t u v : ℕ} {s s' : Shape} {ends offsets listed report report' : List ℕ}
     {rays weights scales positions work work' cameras cameras' points points' : List Float} {answer : Answer} →
-    s ≡ shape n m b e → length report ≡ 3 →
+    s ≡ s' → length report ≡ 3 →
     Solved (submission (network s ends rays weights scales positions offsets listed) route limit t u v) answer
-    work work' cameras cameras' points points' →
+        work work' cameras cameras' points points' →
     report' ≡ answerReport answer report → code ≡ answerCode answer →
-    SolveCall (submission (network (shape n m b e) ends rays weights scales positions offsets listed) route limit t u v) code
-    work work' cameras cameras' points points' report report'
-solve-done {route = route} {limit} {t = t} {u} {v} {ends = ends} {offsets} {listed} {rays = rays} {weights} {scales} {positions} {work} {work'} {cameras}
-    {cameras'} {points} {points'} {answer} h f call q k = record {
-      whole = λ _. record {
-        answer = answer;
-        call = subst (λ (z : Shape). Solved (submission (network z ends rays weights scales positions offsets listed) route limit t u v) answer
-            work work' cameras cameras' points points') h call;
-        coded = k;
-        reported = q;
-      };
-      otherwise = λ g. absurd (g f);
-    }
+    SolveCall (submission (network s' ends rays weights scales positions offsets listed) route limit t u v) code
+        work work' cameras cameras' points points' report report'
+solve-done h f call q k = record {
+  whole = λ g. record { answer = _; call = rw h at call; coded = k; reported = q };
+  otherwise = λ g. absurd (g f);
+}
 
 -- ---- images
 
@@ -157,19 +126,14 @@ read-unreported f = record { whole = λ h. absurd (f h); otherwise = λ h. (refl
 
 pub read-done : {l report report' : List ℕ} {lent left : Lists} {code : ℕ} {answer : Counted} → length report ≡ 4 → Reads l lent answer left →
     report' ≡ countedReport answer report → code ≡ countedCode answer → ReadCall l lent left code report report'
-read-done {answer = answer} f call q k =
-    record { whole = λ h. record { answer = answer; call = call; coded = k; reported = q }; otherwise = λ h. absurd (h f) }
+read-done f call q k =
+    record { whole = λ h. record { answer = _; call = call; coded = k; reported = q }; otherwise = λ h. absurd (h f) }
 
-pub write-done : {n m b e code x : ℕ} {s : Shape} {ends out out' report report' : List ℕ} {rays weights scales positions : List Float}
-    {answer : Written} → s ≡ shape n m b e → Writes (content s ends rays weights scales positions) out answer out' →
+pub write-done : {code x : ℕ} {s s' : Shape} {ends out out' report report' : List ℕ} {rays weights scales positions : List Float}
+    {answer : Written} → s ≡ s' → Writes (content s ends rays weights scales positions) out answer out' →
     x ≡ writtenReport answer → report' ≡ set report 0 x → code ≡ writtenCode answer →
-    WriteCall (content (shape n m b e) ends rays weights scales positions) out out' code report report'
-write-done {ends = ends} {out} {out'} {rays = rays} {weights} {scales} {positions} {answer} h call p q k = record {
-  answer = answer;
-  call = subst (λ (t : Shape). Writes (content t ends rays weights scales positions) out answer out') h call;
-  coded = k;
-  reported = rw p at q;
-}
+    WriteCall (content s' ends rays weights scales positions) out out' code report report'
+write-done h call p q k = record { answer = _; call = rw h at call; coded = k; reported = rw p at q }
 
 -- ---- point lists
 
@@ -177,4 +141,4 @@ pub list-done : {m b code x : ℕ} {ends offsets offsets' listed listed' report 
     PointListsCall m b ends offsets listed answer offsets' listed' →
     x ≡ verdictReport answer → report' ≡ set report 0 x → code ≡ verdictCode answer →
     ListCall m b ends offsets offsets' listed listed' code report report'
-list-done {answer = answer} call p q k = record { answer = answer; call = call; coded = k; reported = rw p at q }
+list-done call p q k = record { answer = _; call = call; coded = k; reported = rw p at q }
