@@ -30,8 +30,8 @@ use Rattle.lists.specs.PointLists.{PointListsCall}
 use Rattle.exports.specs.Codes.{connectivityCode, connectivityReport, listingCode, listingReport, lengthCode, lengthReport}
 use Rattle.exports.specs.Codes.{verdictCode, verdictReport, answerCode, answerReport, countedCode, countedReport}
 use Rattle.exports.specs.Codes.{shapeReport, writtenCode, writtenReport}
-use Rattle.exports.specs.Codes.{ConnectedCall, PartsCall, LengthCall, DotsCall, ScalesCall, SolveCall}
-use Rattle.exports.specs.Codes.{CountsCall, ReadCall, WriteCall, ListCall}
+use Rattle.exports.specs.Calls.{ConnectedCall, PartsCall, LengthCall, DotsCall, ScalesCall, SolveCall}
+use Rattle.exports.specs.Calls.{CountsCall, ReadCall, WriteCall, ListCall}
 
 -- ---- reports of three and of four numbers
 
@@ -103,10 +103,10 @@ pub solve-done : {route limit code t u v : ℕ} {s s' : Shape} {ends offsets lis
     {rays weights scales positions work work' cameras cameras' points points' : List Float} {answer : Answer} →
     s ≡ s' → length report ≡ 3 →
     Solved (submission (network s ends rays weights scales positions offsets listed) route limit t u v) answer
-        work work' cameras cameras' points points' →
+    work work' cameras cameras' points points' →
     report' ≡ answerReport answer report → code ≡ answerCode answer →
     SolveCall (submission (network s' ends rays weights scales positions offsets listed) route limit t u v) code
-        work work' cameras cameras' points points' report report'
+    work work' cameras cameras' points points' report report'
 solve-done h f call q k = record {
   whole = λ g. record { answer = _; call = rw h at call; coded = k; reported = q };
   otherwise = λ g. absurd (g f);

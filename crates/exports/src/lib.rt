@@ -1,9 +1,27 @@
 // The entry points for C and Rust to link. A slice is a pointer and then a length.
+mod codes;
+
+use codes::answer_code;
+use codes::connectivity_code;
+use codes::connectivity_report;
+use codes::counted_code;
+use codes::length_code;
+use codes::length_report;
+use codes::listing_code;
+use codes::listing_report;
+use codes::put;
+use codes::put_answer;
+use codes::put_counted;
+use codes::verdict_code;
+use codes::verdict_report;
+use codes::written_code;
+use codes::written_report;
+use network::Shape;
 ghost use mathlib.Core.Path.{_≡_};
 ghost use mathlib.Core.Bool.{not};
 ghost use lib.Dec.{eqb};
 ghost use lib.Ieee.{binary64};
-ghost use lib.ListN.{length, set as stored};
+ghost use lib.ListN.{length};
 ghost use Rattle.sqrt.specs.Root.{root};
 ghost use Rattle.network.specs.Network.{shape as shapeOf, graph as graphOf, network as networkOf};
 ghost use Rattle.system.specs.Work.{lengthOf};
@@ -11,19 +29,8 @@ ghost use Rattle.recover.specs.Contracts.{placed as placedOf};
 ghost use Rattle.placement.specs.Routes.{submission};
 ghost use Rattle.layout.specs.Image.{content};
 ghost use Rattle.image.specs.Calls.{lists as listsOf};
-ghost use Rattle.exports.specs.Codes.{connectivityCode, connectivityReport, listingCode, listingReport, lengthCode, lengthReport};
-ghost use Rattle.exports.specs.Codes.{verdictCode, verdictReport, answerCode, answerReport, countedCode, countedReport};
-ghost use Rattle.exports.specs.Codes.{shapeReport, writtenCode, writtenReport};
-ghost use Rattle.exports.specs.Codes.{ConnectedCall, PartsCall, LengthCall, DotsCall, ScalesCall, SolveCall};
-ghost use Rattle.exports.specs.Codes.{CountsCall, ReadCall, WriteCall, ListCall};
-use graph::Connectivity;
-use graph::Listing;
-use image::Counted;
-use image::Written;
-use network::Shape;
-use network::Verdict;
-use placement::Answer;
-use system::work::Length;
+ghost use Rattle.exports.specs.Calls.{ConnectedCall, PartsCall, LengthCall, DotsCall, ScalesCall, SolveCall};
+ghost use Rattle.exports.specs.Calls.{CountsCall, ReadCall, WriteCall, ListCall};
 
 fn shape(n: usize, m: usize, b: usize, e: usize) -> Shape
     ensures { λ r. ⌜ r ≡ shapeOf n m b e ⌝ }
@@ -42,53 +49,6 @@ pub extern "C" fn vobzeile_sqrt(x: f64) -> f64
     ensures { λ r. ⌜ r ≡ root binary64 x ⌝ }
 {
     sqrt::sqrt(x)
-}
-
-// x as the first number of a report that has one.
-fn put(report: &mut [usize], x: usize)
-    ensures { λ _. ⌜ now (report .exit) ≡ stored (now (report .entry)) 0 x ⌝ }
-{
-    if 0 < report.len() {
-        report[0] = x;
-    }
-}
-
-fn connectivity_code(a: Connectivity) -> usize
-    ensures { λ r. ⌜ r ≡ connectivityCode a ⌝ }
-{
-    match a {
-        Connectivity::Refused(r) => r.number,
-        Connectivity::Connected => 0,
-        Connectivity::Disconnected => 0,
-    }
-}
-
-fn connectivity_report(a: Connectivity) -> usize
-    ensures { λ r. ⌜ r ≡ connectivityReport a ⌝ }
-{
-    match a {
-        Connectivity::Refused(r) => r.place,
-        Connectivity::Connected => 1,
-        Connectivity::Disconnected => 0,
-    }
-}
-
-fn listing_code(a: Listing) -> usize
-    ensures { λ r. ⌜ r ≡ listingCode a ⌝ }
-{
-    match a {
-        Listing::Refused(r) => r.number,
-        Listing::Parts(_) => 0,
-    }
-}
-
-fn listing_report(a: Listing) -> usize
-    ensures { λ r. ⌜ r ≡ listingReport a ⌝ }
-{
-    match a {
-        Listing::Refused(r) => r.place,
-        Listing::Parts(k) => k,
-    }
 }
 
 // Whether a walk of joined nodes leads from camera 0 to every camera: 0 with 1 or 0 in the report, or the refusal's number with its place there.
@@ -130,68 +90,6 @@ pub extern "C" fn vobzeile_parts(
     let answer = graph::parts(shape(n, m, b, e), ends, weights, nodes, labels);
     put(report, listing_report(answer));
     listing_code(answer)
-}
-
-fn length_code(a: Length) -> usize
-    ensures { λ r. ⌜ r ≡ lengthCode a ⌝ }
-{
-    match a {
-        Length::Refused(r) => r.number,
-        Length::Of(_) => 0,
-    }
-}
-
-fn length_report(a: Length) -> usize
-    ensures { λ r. ⌜ r ≡ lengthReport a ⌝ }
-{
-    match a {
-        Length::Refused(r) => r.place,
-        Length::Of(t) => t,
-    }
-}
-
-fn verdict_code(a: Verdict) -> usize
-    ensures { λ r. ⌜ r ≡ verdictCode a ⌝ }
-{
-    match a {
-        Verdict::Refused(r) => r.number,
-        Verdict::Passed => 0,
-    }
-}
-
-fn verdict_report(a: Verdict) -> usize
-    ensures { λ r. ⌜ r ≡ verdictReport a ⌝ }
-{
-    match a {
-        Verdict::Refused(r) => r.place,
-        Verdict::Passed => 0,
-    }
-}
-
-fn answer_code(a: Answer) -> usize
-    ensures { λ r. ⌜ r ≡ answerCode a ⌝ }
-{
-    match a {
-        Answer::Refused(r) => r.number,
-        Answer::Accepted(_) => 0,
-    }
-}
-
-// The place of a refusal, or anchor, route and rounds, in a report of three numbers.
-fn put_answer(report: &mut [usize], a: Answer)
-    requires { ⌜ length (now report) ≡ 3 ⌝ }
-    ensures { λ _. ⌜ now (report .exit) ≡ answerReport a (now (report .entry)) ⌝ }
-{
-    match a {
-        Answer::Refused(r) => {
-            report[0] = r.place;
-        }
-        Answer::Accepted(p) => {
-            report[0] = p.anchor;
-            report[1] = p.route;
-            report[2] = p.rounds;
-        }
-    }
 }
 
 // The doubles that the work buffer of a solve needs, in the report: 0, or the refusal's number with its place there.
@@ -351,59 +249,6 @@ pub extern "C" fn vobzeile_solve(
     );
     put_answer(report, answer);
     answer_code(answer)
-}
-
-fn counted_code(a: Counted) -> usize
-    ensures { λ r. ⌜ r ≡ countedCode a ⌝ }
-{
-    match a {
-        Counted::Refused(r) => r.number,
-        Counted::Of(_) => 0,
-    }
-}
-
-// n, m, B, E in a report of four numbers.
-fn put_shape(report: &mut [usize], s: Shape)
-    requires { ⌜ length (now report) ≡ 4 ⌝ }
-    ensures { λ _. ⌜ now (report .exit) ≡ shapeReport s (now (report .entry)) ⌝ }
-{
-    report[0] = s.cameras;
-    report[1] = s.points;
-    report[2] = s.bearings;
-    report[3] = s.directions;
-}
-
-// The place of a refusal, or the four counts.
-fn put_counted(report: &mut [usize], a: Counted)
-    requires { ⌜ length (now report) ≡ 4 ⌝ }
-    ensures { λ _. ⌜ now (report .exit) ≡ countedReport a (now (report .entry)) ⌝ }
-{
-    match a {
-        Counted::Refused(r) => {
-            report[0] = r.place;
-        }
-        Counted::Of(s) => {
-            put_shape(report, s);
-        }
-    }
-}
-
-fn written_code(a: Written) -> usize
-    ensures { λ r. ⌜ r ≡ writtenCode a ⌝ }
-{
-    match a {
-        Written::Refused(r) => r.number,
-        Written::Bytes(_) => 0,
-    }
-}
-
-fn written_report(a: Written) -> usize
-    ensures { λ r. ⌜ r ≡ writtenReport a ⌝ }
-{
-    match a {
-        Written::Refused(r) => r.place,
-        Written::Bytes(k) => k,
-    }
 }
 
 // The counts of an image: 0 with n, m, B, E in the report, or the refusal's number with its place as the report's first number. A report that

@@ -1,7 +1,7 @@
 use Rattle.exports.proofs.Calls.{counted-refused, counted-of}
 use borrow.Author.Needs.{needs}
-use Rattle.exports.proofs.put_counted.Statement.{statement}
-use Rattle.exports.proofs.put_counted.Tie as tie
+use Rattle.exports.proofs.codes.put_counted.Statement.{statement}
+use Rattle.exports.proofs.codes.put_counted.Tie as tie
 
 pub put-counted-spec : {M : Type 1} → statement M
 put-counted-spec =

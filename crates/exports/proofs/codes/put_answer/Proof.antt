@@ -1,7 +1,7 @@
 use Rattle.exports.proofs.Calls.{answer-refused, answer-accepted}
 use borrow.Author.Needs.{needs}
-use Rattle.exports.proofs.put_answer.Statement.{statement}
-use Rattle.exports.proofs.put_answer.Tie as tie
+use Rattle.exports.proofs.codes.put_answer.Statement.{statement}
+use Rattle.exports.proofs.codes.put_answer.Tie as tie
 
 pub put-answer-spec : {M : Type 1} → statement M
 put-answer-spec =
