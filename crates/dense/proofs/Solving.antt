@@ -53,7 +53,7 @@ module _ (s : Shape) (d : ℕ) where
   kept-kept : (l m w : List Float) → DenseKept s d l m → DenseKept s d m w → DenseKept s d l w
   kept-kept l m w g h = record { terms = h .terms ∙ g .terms; points = h .points ∙ g .points; rows = h .rows ∙ g .rows; surplus = h .surplus ∙ g .surplus; size = h .size ∙ g .size }
 
-  segments-kept : (w : Weights) (t : List CameraTerm) (l l' : List Float) → DenseKept s d l l' → Segments s w t l → Segments s w t l'
+  pub segments-kept : (w : Weights) (t : List CameraTerm) (l l' : List Float) → DenseKept s d l l' → Segments s w t l → Segments s w t l'
   segments-kept w t l l' g h = record { terms = g .terms ∙ h .terms; points = g .points ∙ h .points; rows = g .rows ∙ h .rows }
 
 -- what was written at p, of the length n
@@ -161,16 +161,15 @@ dense-done s ends offsets listed a l w u r K room ew h =
     let p : part w (matrixAt s) (d * d) ≡ A = part-written l w A (matrixAt s) (d * d) ew z (omega arith) in
     record { answer = rw (p, k .terms) at (h .answer); kept = kept-kept s d l w u k (h .kept) }
 
--- A buffer that holds the network's segments gives the network's own solution, and holds them still.
-pub dense-solved : (net : Network) (a : ℕ) (l l' : List Float) (r : Solve) → LinksSound (linksOf net) → Segments (net .shape) (weightsOf net) (terms net) l → a ≡ anchor net →
-    DenseSolved (net .shape) (dimension (net .shape)) (denseSolutionBy (linksOf net) (weightsIn (net .shape) l) (load term l 0 (net .shape .cameras)) a) l l' r →
-    DenseSolved (net .shape) (dimension (net .shape)) (denseSolution net) l l' r × Segments (net .shape) (weightsOf net) (terms net) l'
+-- A buffer that holds the network's segments gives the network's own solution.
+pub dense-held : (net : Network) (l : List Float) (a : ℕ) → LinksSound (linksOf net) → Segments (net .shape) (weightsOf net) (terms net) l → a ≡ anchor net →
+    denseSolutionBy (linksOf net) (weightsIn (net .shape) l) (load term l 0 (net .shape .cameras)) a ≡ denseSolution net
 unfolding denseSolutionBy denseSolution
-dense-solved net a l l' r K g ea h =
+dense-held net l a K g ea =
     let s = net .shape in
     let agree : AgreeOn s (weightsIn s l) (weightsOf net) = record {
       row = λ i b. held-at l (effectiveAt s) (rows s) i (weightsOf net .row) (g .rows) b;
       point = λ p b. held-at l (weightsAt s) (s .points) p (weightsOf net .point) (g .points) b;
     } in
     let m = matrix-same (linksOf net) K (weightsIn s l) (weightsOf net) (terms net) (anchor net) (dimension s) agree in
-    (record { answer = h .answer ∙ rw (ea, g .terms, m) refl; kept = h .kept }, segments-kept s (dimension s) (weightsOf net) (terms net) l l' (h .kept) g)
+    rw (ea, g .terms, m) refl

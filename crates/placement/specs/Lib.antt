@@ -1,3 +1,3 @@
 pub mod Routes
 pub mod Solved
-pub mod Going
+pub mod inner

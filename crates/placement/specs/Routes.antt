@@ -1,7 +1,7 @@
 -- The routes of a solve (document 01, 'Size and domain': 'Routes'), and how a solve ends.
-use Prim.Native.Nat.{ℕ, zero, suc, _-_, _*_}
-use mathlib.Core.List.{List}
-use mathlib.Core.Bool.{Bool, true, false, _&&_}
+use Prim.Native.Nat.{ℕ, _-_, _*_}
+use mathlib.Core.List.{List, [], _++_}
+use mathlib.Core.Bool.{Bool, cond, _&&_}
 use lib.Dec.{eqb, leb}
 use Rattle.field.specs.declared.Vec3.{Vec3}
 use Rattle.network.specs.declared.Refusal.{Refusal}
@@ -9,9 +9,10 @@ use Rattle.network.specs.declared.Verdict.{Verdict}
 use Rattle.network.specs.declared.Verdict.the-variants.{Refused, Passed}
 use Rattle.network.specs.Network.{Network}
 use Rattle.network.specs.declared.Shape.{Shape}
-use Rattle.network.specs.Refusals.{verdict, solveTests, workLength}
+use Rattle.network.specs.Refusals.{verdict, countTests, lengthTests, networkFits, networkRowTests, routeTests}
 use Rattle.system.specs.System.{anchor}
-use Rattle.iterative.specs.Method.{Run, going, ended, failed, solution}
+use Rattle.system.specs.Work.{workLength}
+use Rattle.iterative.specs.Method.{Ending, accepted, refused, solution}
 use Rattle.iterative.specs.Reduced.{problem}
 use Rattle.cholesky.specs.Cholesky.{Result, done, stopped}
 use Rattle.dense.specs.Dense.{denseSolution}
@@ -27,7 +28,8 @@ pub record Submission : Type 0 where
   pub points : ℕ
 
 abbrev pub submission : Network → ℕ → ℕ → ℕ → ℕ → ℕ → Submission
-submission net route limit work cameras points = record { net = net; route = route; limit = limit; work = work; cameras = cameras; points = points }
+submission net route limit work cameras points =
+    record { net = net; route = route; limit = limit; work = work; cameras = cameras; points = points }
 
 -- How a solve ends: rejected by 1 to 8; failed by 9 to 17; or with a report and the cameras.
 pub data Placement : Type 0 where
@@ -46,40 +48,44 @@ abbrev pub byDense : ℕ → ℕ → Result (List Vec3) → Placement
 byDense a r (done cameras) = placed (report a r 0) cameras
 byDense a r (stopped k i) = failingAt k i
 
--- route 1: dense, or 14 at d = n - 1 where that is over the dense limit
-abbrev pub dense : Bool → ℕ → ℕ → Result (List Vec3) → Placement
-dense true a d x = byDense a 1 x
-dense false a d x = failingAt 14 d
+-- dense where n - 1 is within the limit, else x
+abbrev pub denseOr : Bool → ℕ → ℕ → Result (List Vec3) → Placement → Placement
+denseOr within a r y x = cond within (byDense a r y) x
 
 -- the iterative answer, or what follows its refusal
-abbrev pub byRun : ℕ → Run → (ℕ → ℕ → Placement) → Placement
-byRun a (ended s) f = placed (report a 2 (s .round .count)) (s .positions)
-byRun a (going s) f = placed (report a 2 (s .round .count)) (s .positions)
-byRun a (failed k i) f = f k i
+abbrev pub byIterative : ℕ → Ending → (ℕ → ℕ → Placement) → Placement
+byIterative a (accepted s) f = placed (report a 2 (s .round .count)) (s .positions)
+byIterative a (refused k i) f = f k i
 
--- route 3 after a refusal of the iterative part: dense where n - 1 is within the limit, else that refusal
-abbrev pub fallback : Bool → ℕ → Result (List Vec3) → ℕ → ℕ → Placement
-fallback true a x k i = byDense a 3 x
-fallback false a x k i = failingAt k i
+-- what follows: on route 2 that refusal; on route 3 dense within the limit, else that refusal
+abbrev pub afterRefusal : ℕ → ℕ → ℕ → ℕ → Result (List Vec3) → ℕ → ℕ → Placement
+afterRefusal a d route limit y k i = cond (eqb route 2) (failingAt k i) (denseOr (leb d limit) a 3 y (failingAt k i))
 
--- '1 dense; 2 iterative; 3 iterative, then dense if that refused and n-1 is within the dense limit'
+-- '1 dense; 2 iterative; 3 iterative, then dense if that refused and n-1 is within the dense limit': the route of an anchor a, d = n - 1 dense
+-- rows, and the answers x of the iterative and y of the dense solve. Route 1 over the limit is 14 at d.
+unfoldable pub routedBy : ℕ → ℕ → ℕ → ℕ → Ending → Result (List Vec3) → Placement
+routedBy a d route limit x y =
+    cond (eqb route 1) (denseOr (leb d limit) a 1 y (failingAt 14 d)) (byIterative a x (afterRefusal a d route limit y))
+
 unfoldable pub routed : Network → ℕ → ℕ → Placement
-routed net zero limit = failingAt 8 0
-routed net (suc zero) limit =
-    let d = net .graph .shape .cameras - 1 in dense (leb d limit) (anchor net) d (denseSolution net)
-routed net (suc (suc zero)) limit = byRun (anchor net) (solution (problem net)) failingAt
-routed net (suc (suc (suc r))) limit =
-    byRun (anchor net) (solution (problem net)) (fallback (leb (net .graph .shape .cameras - 1) limit) (anchor net) (denseSolution net))
+routed net route limit = routedBy (anchor net) (net .shape .cameras - 1) route limit (solution (problem net)) (denseSolution net)
 
 -- 3 tests the outputs (3n and 3m numbers) and the work buffer (at least T)
 unfoldable pub buffersFit : Shape → ℕ → ℕ → ℕ → ℕ → ℕ → Bool
 buffersFit s route limit work cameras points =
     eqb cameras (3 * s .cameras) && (eqb points (3 * s .points) && leb (workLength s route limit) work)
 
-unfoldable pub submissionVerdict : Submission → Verdict
-submissionVerdict i =
-    verdict
-    (solveTests (i .net) (buffersFit (i .net .graph .shape) (i .route) (i .limit) (i .work) (i .cameras) (i .points)) (i .route) (i .limit))
+-- 1 and 2; 3, of the buffers too; 4 to 7; 8
+unfoldable pub submissionTests : Submission → List Verdict
+submissionTests i =
+    let net = i .net in
+    let s = net .shape in
+    countTests s
+    ++ (lengthTests (networkFits net && buffersFit s (i .route) (i .limit) (i .work) (i .cameras) (i .points))
+    ++ (networkRowTests net [] ++ routeTests (i .route) (i .limit)))
+
+abbrev pub submissionVerdict : Submission → Verdict
+submissionVerdict i = verdict (submissionTests i)
 
 abbrev pub checked : Verdict → Placement → Placement
 checked (Refused r) p = rejected r

@@ -7,7 +7,7 @@ use lib.Ieee.{Float}
 use Rattle.field.specs.Vec.{null}
 use Rattle.field.specs.Buffer.{flat, load, vector}
 use Rattle.network.specs.Network.{Network}
-use Rattle.network.specs.Refusals.{workLength}
+use Rattle.system.specs.Work.{workLength}
 use Rattle.recover.specs.Recover.{pointsOf}
 use Rattle.iterative.specs.Reduced.{problem}
 use Rattle.iterative.specs.Accepted.{Accepted as Meaning}
@@ -44,11 +44,12 @@ pub record Solved (i : Submission) (r : Answer) (work work' cameras cameras' poi
   pub answer : r ≡ answerOf (placement i)
   pub camerasOut : cameras' ≡ camerasAfter (placement i) cameras
   pub pointsOut : points' ≡ pointsAfter (i .net) (placement i) points
-  pub workOut : work' ≡ workAfter (workLength (i .net .graph .shape) (i .route) (i .limit)) (placement i) work
+  pub workOut : work' ≡ workAfter (workLength (i .net .shape) (i .route) (i .limit)) (placement i) work
   -- Demand 3. Whatever network is submitted, whatever its numbers overflow to and whatever the lent buffers held: where the iterative
   -- part answered (route 2, or route 3 answering as 2), the cameras that the output holds and the rounds that are reported are such that
   -- every camera coordinate is finite; the anchor is three positive zeros; the residual of each of x, y and z, worked out afresh from
   -- the network and these cameras, is finite and at most (1e-10 × root of its right-side square sum + 1e-12) squared in double
   -- arithmetic; and the cameras and the count are those that the written method ends with, at most 8(n-1) clamped to 64..4000.
-  -- (`Meaning` has a field for each of these clauses; `problem` is the system that the network forms.)
-  pub meaning : (a k : ℕ) → r ≡ Accepted (report a 2 k) → Meaning (problem (i .net)) (load vector cameras' 0 (i .net .graph .shape .cameras)) k
+  -- (`Meaning` has a field for each of these clauses; `problem` is the system that the network forms, with the anchor that is reported.)
+  pub meaning : (a k : ℕ) → r ≡ Accepted (report a 2 k) →
+      (a ≡ problem (i .net) .anchor) × Meaning (problem (i .net)) (load vector cameras' 0 (i .net .shape .cameras)) k

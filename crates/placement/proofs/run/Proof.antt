@@ -1,19 +1,13 @@
-use Rattle.placement.proofs.Placing.{checked-ready, standing-formed, went-formed}
+use Rattle.placement.proofs.Placing.{checked-links, checked-room, checked-rows, formed-ready, run-done}
 use borrow.Author.Needs.{needs}
 use Rattle.placement.proofs.run.Statement.{statement}
 use Rattle.placement.proofs.run.Tie as tie
 
-form-requires : tie.Need-form-requires
-form-requires c κs = checked-ready (c .before .before .before .before .before .before .before .before .before .pre)
-
-go-requires : tie.Need-go-requires
-go-requires c κs = standing-formed (c .before .before .before .before .before .before .before .before .before .before .before .before .before .pre) (c .before .before .before .form .ensures)
-
-same-length : tie.Need-same-length
-same-length c = search needs
-
-returns : tie.Need-returns
-returns c = went-formed _ _ (c .before .before .before .before .before .before .form .ensures) (c .before .before .go .ensures)
-
 pub run-spec : {M : Type 1} → statement M
-run-spec = tie.close (tie.spec form-requires go-requires same-length returns)
+run-spec =
+    tie.close
+    (tie.spec
+    (λ c κs. (search checked-links, (search checked-rows, search checked-room)))
+    (λ c κs. (search checked-links, search formed-ready))
+    (λ c. search needs)
+    (λ c. search run-done))
