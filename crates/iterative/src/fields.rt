@@ -168,7 +168,13 @@ fn precondition_at(
 }
 
 // The field at `from` over the diagonal with the ridge, and zero at the anchor. Returned is the dot of the two fields, summed in the same pass.
-pub(crate) fn precondition(s: Shape, work: &mut [f64], anchor: usize, from: usize, into: usize) -> Vec3
+pub(crate) fn precondition(
+    s: Shape,
+    work: &mut [f64],
+    anchor: usize,
+    from: usize,
+    into: usize,
+) -> Vec3
     requires { ⌜ Ordered s from into (length (now work)) ⌝ }
     ensures { λ r. ⌜ Preconditioned s anchor from into (now (work .entry)) (now (work .exit)) r ⌝ }
 {
@@ -182,11 +188,20 @@ pub(crate) fn precondition(s: Shape, work: &mut [f64], anchor: usize, from: usiz
     sum
 }
 
-fn put_stepped(work: &mut [f64], anchor: usize, adds: bool, active: Active, alpha: Vec3, into: usize, along: usize, i: usize)
+fn put_stepped(
+    work: &mut [f64],
+    anchor: usize,
+    adds: bool,
+    active: Active,
+    alpha: Vec3,
+    into: usize,
+    along: usize,
+    i: usize,
+)
     requires { ⌜ (i < 4096) × (into + 3 * i + 3 ≤ length (now work)) × (along + 3 * i + 3 ≤ length (now work)) ⌝ }
     ensures { λ r. ⌜ now (work .exit) ≡ put vector (now (work .entry)) (into + 3 * i)
         (cond (eqb i anchor) (get vector (now (work .entry)) (into + 3 * i))
-            (steppedOf (signed adds) active alpha (get vector (now (work .entry)) (into + 3 * i)) (get vector (now (work .entry)) (along + 3 * i)))) ⌝ }
+        (steppedOf (signed adds) active alpha (get vector (now (work .entry)) (into + 3 * i)) (get vector (now (work .entry)) (along + 3 * i)))) ⌝ }
 {
     let v = get3(work, into + 3 * i);
     let w = stepped(adds, active, alpha, v, get3(work, along + 3 * i));
@@ -248,7 +263,14 @@ fn put_search(work: &mut [f64], active: Active, beta: Vec3, from: usize, into: u
 }
 
 // The next search vector at `into`, of the field at `from`.
-pub(crate) fn update_search(s: Shape, work: &mut [f64], active: Active, beta: Vec3, from: usize, into: usize)
+pub(crate) fn update_search(
+    s: Shape,
+    work: &mut [f64],
+    active: Active,
+    beta: Vec3,
+    from: usize,
+    into: usize,
+)
     requires { ⌜ Ordered s from into (length (now work)) ⌝ }
     ensures { λ r. ⌜ now (work .exit) ≡ store vector (now (work .entry)) into
         (searchField (s .cameras) active beta (load vector (now (work .entry)) from (s .cameras)) (load vector (now (work .entry)) into (s .cameras))) ⌝ }

@@ -59,7 +59,11 @@ fn diagonal_number(work: &[f64], i: usize) -> usize
     requires { ⌜ (i < 4096) × (termPlace (i + 1) ≤ length (now work)) ⌝ }
     ensures { λ r. ⌜ r ≡ diagonalNumber (diagonalIn (now (work .entry)) i) ⌝ }
 {
-    if is_finite(ridged_diagonal(work, i)) { 10 } else { 9 }
+    if is_finite(ridged_diagonal(work, i)) {
+        10
+    } else {
+        9
+    }
 }
 
 // The solve where every diagonal can precondition.

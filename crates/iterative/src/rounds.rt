@@ -84,8 +84,26 @@ fn move_along(
     let active = r.active;
     let old = r.old;
     let alpha = quotient(old, curvature);
-    step_field(s, work, anchor, true, active, alpha, positions_at(s), search_at(s));
-    let sums = step_field(s, work, anchor, false, active, alpha, residual_at(s), applied_at(s));
+    step_field(
+        s,
+        work,
+        anchor,
+        true,
+        active,
+        alpha,
+        positions_at(s),
+        search_at(s),
+    );
+    let sums = step_field(
+        s,
+        work,
+        anchor,
+        false,
+        active,
+        alpha,
+        residual_at(s),
+        applied_at(s),
+    );
     Round {
         old: old,
         active: stay_active(bound, active, sums),

@@ -23,7 +23,7 @@ use Rattle.network.specs.Refusals.{verdict, countTests, lengthTests, networkFit
 use Rattle.network.proofs.Verdicts.{halts-in, passes-in, stage-passed}
 use Rattle.network.proofs.Sound.{counts-sound, lengths-fit, network-fits, network-sound, route-sound}
 use Rattle.system.specs.System.{anchor, anchorOf, sumsFrom, terms, termsBy, weightsOf}
-use Rattle.system.specs.Work.{matrixAt, positionsAt, term, workLength}
+use Rattle.system.specs.Work.{matrixAt, term, termPlace, workLength}
 use Rattle.system.specs.inner.Formed.{Formed, RowsThere, Segments, weightsIn}
 use Rattle.recover.specs.Recover.{pointsBy, pointsOf}
 use Rattle.recover.proofs.Points.{points-recovered}
@@ -54,18 +54,18 @@ buffers-are s route limit work cameras points t x y e f g = rw (← e, ← f) g
 pub lengths-are : (v : Verdict) (x y b c : Bool) → x ≡ b → y ≡ c → (z : Bool) → z ≡ (x && y) → v ≡ verdict (lengthTests z) → v ≡ verdict (lengthTests (b && c))
 lengths-are v x y b c e f z g h = h ∙ rw (g, e, f)
 
-module _ (s : Shape) (ends : List ℕ) (rays weights scales points : List Float) (offsets listed : List ℕ) (route limit : ℕ) where
+module _ (s : Shape) (ends : List ℕ) (rays weights scales points : List Float) (offsets listed : List ℕ) where
   abbrev net : Network
   net = network s ends rays weights scales points offsets listed
 
   pub rows-measured : (v : Verdict) (fit : Bool) → v ≡ verdict (lengthTests (networkFits net && fit)) → v ≡ Passed → NetworkLengths net
   rows-measured v fit e p = network-fits net (both-true _ _ (lengths-fit _ (sym e ∙ p)) .0)
 
-  pub submission-checked : (work cameras out : ℕ) (x v y : Verdict) → x ≡ verdict (countTests s) → x ≡ Passed →
+  pub submission-checked : (route limit work cameras out : ℕ) (x v y : Verdict) → x ≡ verdict (countTests s) → x ≡ Passed →
       v ≡ verdict (lengthTests (networkFits net && buffersFit s route limit work cameras out)) → v ≡ Passed →
       y ≡ verdict (networkRowTests net [] ++ routeTests route limit) → y ≡ submissionVerdict (submission net route limit work cameras out)
   unfolding submissionTests
-  submission-checked work cameras out x v y e p f q h = passes-in (countTests s) _ e p (passes-in (lengthTests _) _ f q h)
+  submission-checked route limit work cameras out x v y e p f q h = passes-in (countTests s) _ e p (passes-in (lengthTests _) _ f q h)
 
 -- what 'nothing was refused' says
 pub record Sound (i : Submission) : Type 0 where
@@ -137,9 +137,9 @@ module _ (s : Shape) (ends : List ℕ) (rays weights scales points : List Float)
 
 -- ---- the outputs
 
-pub cameras-filled : (s : Shape) (l out out' : List Float) (p : ℕ) → p ≡ positionsAt s → length out ≡ 3 * s .cameras →
-    out' ≡ store vector out 0 (load vector l p (s .cameras)) → out' ≡ flat vector (positionsIn s l)
-cameras-filled s l out out' p ep h e = e ∙ store-whole vector vector-lawful out (load vector l p (s .cameras)) (rw (length-load vector l p (s .cameras)) h) ∙ rw ep
+pub cameras-filled : (n : ℕ) (l out out' : List Float) (p : ℕ) → p ≡ termPlace n → length out ≡ 3 * n → out' ≡ store vector out 0 (load vector l p n) →
+    out' ≡ flat vector (load vector l (termPlace n) n)
+cameras-filled n l out out' p ep h e = e ∙ store-whole vector vector-lawful out (load vector l p n) (rw (length-load vector l p n) h) ∙ rw ep
 
 module _ (s : Shape) (ends : List ℕ) (rays weights scales points : List Float) (offsets listed : List ℕ) (route limit : ℕ) (l l1 cameras placed0 : List Float) (r : Answer)
     (C : Checked (network s ends rays weights scales points offsets listed) route limit (length l))
@@ -259,6 +259,10 @@ module _ (net : Network) (N : NetworkSound net) where
       go false = meant-iterative (solution (problem net)) refl (afterRefusal (anchor net) d route limit (denseSolution net)) (λ k i. other-after (anchor net) d limit (denseSolution net) k i (eqb route 2))
 
 -- ---- the solve
+
+pub clear-room : (net : Network) (route limit t : ℕ) (r : Answer) (work mid cameras cameras' points points' : List Float) → Checked net route limit (length work) →
+    Placed net route limit r work mid cameras cameras' points points' → t ≡ workLength (net .shape) route limit → t ≤ length mid
+clear-room net route limit t r work mid cameras cameras' points points' C P e = rw (e, P .size) (C .room)
 
 module _ (i : Submission) (v : Verdict) (work cameras points : List Float) (e : v ≡ submissionVerdict i) where
   abbrev T : ℕ

@@ -29,10 +29,7 @@ fn buffers_fit(
     ensures { λ r. ⌜ r ≡ buffersFit s route limit work cameras placed ⌝ }
 {
     let room = work_needed(s, route, limit) <= work;
-    both(
-        cameras == 3 * s.cameras,
-        both(placed == 3 * s.points, room),
-    )
+    both(cameras == 3 * s.cameras, both(placed == 3 * s.points, room))
 }
 
 // 3, of every slice that the call is lent.
@@ -114,9 +111,34 @@ pub(crate) fn check(
     if let Verdict::Refused(r) = counts {
         return Verdict::Refused(r);
     }
-    let lengths = check_all_lengths(s, ends, rays, weights, scales, points, offsets, listed, route, limit, work, cameras, placed);
+    let lengths = check_all_lengths(
+        s,
+        ends,
+        rays,
+        weights,
+        scales,
+        points,
+        offsets,
+        listed,
+        route,
+        limit,
+        work,
+        cameras,
+        placed,
+    );
     if let Verdict::Refused(r) = lengths {
         return Verdict::Refused(r);
     }
-    check_rows(s, ends, rays, weights, scales, points, offsets, listed, route, limit)
+    check_rows(
+        s,
+        ends,
+        rays,
+        weights,
+        scales,
+        points,
+        offsets,
+        listed,
+        route,
+        limit,
+    )
 }

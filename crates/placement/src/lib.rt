@@ -64,7 +64,18 @@ fn fill(
         (weightsIn s (now (work .entry))) (positionsIn s (now (work .entry)))) ⌝ }
 {
     copy3(work, positions_at(s), cameras, 0, s.cameras);
-    recover_points(s, ends, rays, weights, scales, points, offsets, listed, work, placed);
+    recover_points(
+        s,
+        ends,
+        rays,
+        weights,
+        scales,
+        points,
+        offsets,
+        listed,
+        work,
+        placed,
+    );
 }
 
 // Forms the system and goes the route.
@@ -115,9 +126,33 @@ fn place(
         route limit r (now (work .entry)) (now (work .exit)) (now (cameras .entry)) (now (cameras .exit))
         (now (placed .entry)) (now (placed .exit)) ⌝ }
 {
-    let answer = run(s, ends, rays, weights, scales, points, offsets, listed, route, limit, work);
+    let answer = run(
+        s,
+        ends,
+        rays,
+        weights,
+        scales,
+        points,
+        offsets,
+        listed,
+        route,
+        limit,
+        work,
+    );
     if let Answer::Accepted(report) = answer {
-        fill(s, ends, rays, weights, scales, points, offsets, listed, work, cameras, placed);
+        fill(
+            s,
+            ends,
+            rays,
+            weights,
+            scales,
+            points,
+            offsets,
+            listed,
+            work,
+            cameras,
+            placed,
+        );
         return Answer::Accepted(report);
     }
     answer
@@ -145,11 +180,39 @@ pub fn solve(
         route limit (length (now (work .entry))) (length (now (cameras .entry))) (length (now (placed .entry))))
         r (now (work .entry)) (now (work .exit)) (now (cameras .entry)) (now (cameras .exit)) (now (placed .entry)) (now (placed .exit)) ⌝ }
 {
-    let verdict = check(s, ends, rays, weights, scales, points, offsets, listed, route, limit, work.len(), cameras.len(), placed.len());
+    let verdict = check(
+        s,
+        ends,
+        rays,
+        weights,
+        scales,
+        points,
+        offsets,
+        listed,
+        route,
+        limit,
+        work.len(),
+        cameras.len(),
+        placed.len(),
+    );
     if let Verdict::Refused(r) = verdict {
         return Answer::Refused(r);
     }
-    let answer = place(s, ends, rays, weights, scales, points, offsets, listed, route, limit, work, cameras, placed);
+    let answer = place(
+        s,
+        ends,
+        rays,
+        weights,
+        scales,
+        points,
+        offsets,
+        listed,
+        route,
+        limit,
+        work,
+        cameras,
+        placed,
+    );
     clear(work, work_needed(s, route, limit));
     answer
 }

@@ -1,4 +1,4 @@
-use Rattle.placement.proofs.Placing.{solve-placed, solve-rejected, submission-sound}
+use Rattle.placement.proofs.Placing.{clear-room, solve-placed, solve-rejected, submission-sound}
 use borrow.Author.Needs.{needs}
 use Rattle.placement.proofs.solve.Statement.{statement}
 use Rattle.placement.proofs.solve.Tie as tie
@@ -11,10 +11,23 @@ solve-spec =
     (λ c. search needs)
     (λ c. search solve-rejected)
     (λ c. search needs)
-    (λ c κs. ?)  -- place-requires
-    (λ c κs. ?)  -- work-needed-requires
-    (λ c κs. ?)  -- clear-requires
+    (λ c κs.
+    let k = c .before .before .before in
+    let S = submission-sound _ _ (k .before .before .check .ensures) (k .enum-told .given .1) in
+    (S .checked, (S .cameras, S .points)))
+    (λ c κs.
+    let k = c .before .before .before .before .before .before .before .before .before .before .before in
+    submission-sound _ _ (k .before .before .check .ensures) (k .enum-told .given .1) .checked .sound .links .ends .shape)
+    (λ c κs.
+    let h = c .before .before .before .before .before .before .before .before in
+    let k = h .before .before .before .before in
+    let S = submission-sound _ _ (k .before .before .check .ensures) (k .enum-told .given .1) in
+    clear-room _ _ _ _ _ _ _ _ _ _ _ (S .checked) (h .place .ensures) (c .work-needed .ensures))
     (λ c. search needs)
     (λ c. search needs)
     (λ c. search needs)
-    (λ c. search solve-placed))
+    (λ c.
+    let f = c .before .before in
+    let h = f .before .before .before .before .before .before .before .before .before in
+    let k = h .before .before .before .before in
+    solve-placed _ _ _ _ _ (k .before .before .check .ensures) _ _ _ _ _ _ (k .enum-told .given .1) (h .place .ensures) (f .before .work-needed .ensures) (f .clear .ensures)))

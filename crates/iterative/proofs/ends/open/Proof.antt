@@ -18,9 +18,9 @@ open-spec =
     (λ c κs. search needs)
     (λ c. search needs)
     (λ c.
-        let k = c .before .before in
-        let h = k .before .before .before .before .before .before in
-        let g = h .before .before .before .before .before in
-        let f = g .before .before .before .before .before in
-        opened-done _ _ _ _ _ _ _ _ _ _ _ _ _ (search needs) (f .before .right-at .ensures) (g .before .positions-at .ensures) (h .before .residual-at .ensures)
-            (k .before .before .residual-at2 .ensures) (k .before .search-at .ensures) (f .set-right .ensures) (g .set-zero .ensures) (h .set-right2 .ensures) (k .precondition .ensures)))
+    let k = c .before .before in
+    let h = k .before .before .before .before .before .before in
+    let g = h .before .before .before .before .before in
+    let f = g .before .before .before .before .before in
+    opened-done _ _ _ _ _ _ _ _ _ _ _ _ _ (search needs) (f .before .right-at .ensures) (g .before .positions-at .ensures) (h .before .residual-at .ensures)
+    (k .before .before .residual-at2 .ensures) (k .before .search-at .ensures) (f .set-right .ensures) (g .set-zero .ensures) (h .set-right2 .ensures) (k .precondition .ensures)))

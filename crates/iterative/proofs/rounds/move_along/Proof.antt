@@ -19,9 +19,9 @@ move-along-spec =
     (λ c κs. search needs)
     (λ c. search needs)
     (λ c.
-        let k = c .before .before .before in
-        let h = k .before .before .before .before .before .before in
-        let f = h .before .before .before .before in
-        let pre = f .before .before .before .before .before .pre in
-        moved-done _ _ _ (pre .0) _ _ _ _ _ _ _ _ _ _ _ _ _ (f .quotient .ensures) (h .before .before .positions-at .ensures) (h .before .search-at .ensures)
-            (k .before .before .residual-at .ensures) (k .before .applied-at .ensures) (h .step-field .ensures) (k .step-field2 .ensures) (c .stay-active .ensures) (pre .1 .0)))
+    let k = c .before .before .before in
+    let h = k .before .before .before .before .before .before in
+    let f = h .before .before .before .before in
+    let pre = f .before .before .before .before .before .pre in
+    moved-done _ _ _ (pre .0) _ _ _ _ _ _ _ _ _ _ _ _ _ (f .quotient .ensures) (h .before .before .positions-at .ensures) (h .before .search-at .ensures)
+    (k .before .before .residual-at .ensures) (k .before .applied-at .ensures) (h .step-field .ensures) (k .step-field2 .ensures) (c .stay-active .ensures) (pre .1 .0)))

@@ -19,5 +19,5 @@ check-spec =
     (λ c. search needs)
     (λ c. search (passes-in, halts-in))
     (λ c. search needs)
-    (λ c κs. (search counted, search rows-measured))
+    (λ c κs. (search counted, rows-measured _ _ _ _ _ _ _ _ _ _ (c .before .before .check-all-lengths .ensures) (c .enum-told2 .given .1)))
     (λ c. search submission-checked))
