@@ -11,10 +11,10 @@ use Rattle.sqrt.specs.Root.{root}
 use Rattle.network.specs.Network.{Graph, shape, graph}
 use Rattle.graph.specs.Joined.{Connected, Label}
 use Rattle.system.specs.System.{tiny, one, meanOffset, terms, termAt}
-use Rattle.system.specs.Edges.{single, five, minusTiny}
-use Rattle.recover.specs.Edges.{RecoverEdges, GivesPoint, half, two}
+use Rattle.system.specs.Edges.{single, faint, pair, five, half, two, minusTiny}
+use Rattle.recover.specs.Edges.{RecoverEdges, GivesPoint}
 use Rattle.iterative.specs.Problem.{mostRounds}
-use Rattle.dense.specs.Edges.{pair, triple}
+use Rattle.dense.specs.Edges.{triple}
 use Rattle.placement.specs.Routes.{submission, placement, placed, report, failingAt}
 
 -- n=3, direction 0-1 weight 1, 1-2 weight 0
@@ -24,8 +24,8 @@ twoParts = graph (shape 3 0 0 2) (0 ∷ 1 ∷ 1 ∷ 2 ∷ []) (one ∷ null ∷ 
 abbrev vec : Float → Float → Float → Vec3
 vec a b c = record { x = a; y = b; z = c }
 
--- Camera 0 sees point 0 with this weight and scale, on the solve program's route 3 with limit 48; the work buffer has T = 28 numbers, the outputs 3 each.
--- The solve is accepted: anchor 0, route 2, no round; camera 0 is at zero, and the point comes out as v.
+-- Camera 0 sees point 0 with this weight and scale, on the solve program's route 3 with limit 48; the work buffer has T = 28 numbers, the outputs
+-- 3 each. The solve is accepted: anchor 0, route 2, no round; camera 0 is at zero, and the point comes out as v.
 abbrev pub Solves : Float → Float → Vec3 → Type 0
 Solves w s v = (placement (submission (single w s) 3 48 28 3 3) ≡ placed (report 0 2 0) (origin ∷ [])) × GivesPoint w s v
 
@@ -35,8 +35,8 @@ pub record Edges : Type 0 where
   -- ● With weight 0: point stays (5,5,5).
   pub weightless : Solves null half (vec five five five)
   -- ● Weight 1e-12, scale 1: mean offset zero, yet assembled; right side z is -1e-12, point (0,0,1).
-  pub faint-mean : meanOffset (single tiny one) 0 ≡ origin
-  pub faint-right : termAt (terms (single tiny one)) 0 .right .z ≡ minusTiny
+  pub faint-mean : meanOffset faint 0 ≡ origin
+  pub faint-right : termAt (terms faint) 0 .right .z ≡ minusTiny
   pub faint-case : Solves tiny one (vec null null one)
   -- ● n=2, one direction, weight 1e300, scale 1e10: route 2 gives 9 at camera 1, route 1 with limit 1 gives 15 at row 0.
   pub diagonal-overflows : placement (submission pair 2 1 47 6 0) ≡ failingAt 9 1

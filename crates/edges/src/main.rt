@@ -3,6 +3,16 @@
 // The most rounds stand only there: no public function answers them.
 use io::print_hex;
 use io::write_all;
+use network::Shape;
+
+fn shape(n: usize, m: usize, b: usize, e: usize) -> Shape {
+    Shape {
+        cameras: n,
+        points: m,
+        bearings: b,
+        directions: e,
+    }
+}
 
 fn root(name: &[u8], bits: u64) {
     write_all(1, b"root of ");
@@ -26,17 +36,19 @@ fn number(x: usize) {
 fn two_parts() {
     let mut nodes = [0usize; 3];
     let mut labels = [9usize; 3];
-    match graph::is_connected(3, 0, 0, 2, &[0usize, 1, 1, 2], &[1.0, 0.0], &mut nodes) {
+    match graph::is_connected(
+        shape(3, 0, 0, 2),
+        &[0usize, 1, 1, 2],
+        &[1.0, 0.0],
+        &mut nodes,
+    ) {
         graph::Connectivity::Refused(_) => write_all(1, b"refused"),
         graph::Connectivity::Connected => write_all(1, b"connected"),
         graph::Connectivity::Disconnected => write_all(1, b"not connected"),
     }
     ;
     match graph::parts(
-        3,
-        0,
-        0,
-        2,
+        shape(3, 0, 0, 2),
         &[0usize, 1, 1, 2],
         &[1.0, 0.0],
         &mut nodes,
@@ -59,10 +71,7 @@ fn scale(name: &[u8], x: f64) {
     write_all(1, name);
     write_all(1, b": ");
     match recover::scales(
-        2,
-        0,
-        0,
-        1,
+        shape(2, 0, 0, 1),
         &[0usize, 1],
         &[1.0, 0.0, 0.0],
         &[1.0],
@@ -127,10 +136,7 @@ fn one_camera(name: &[u8], weight: f64, scale: f64) {
     let mut cameras = [7.0; 3];
     let mut placed = [7.0; 3];
     let given = placement::solve(
-        1,
-        1,
-        1,
-        0,
+        shape(1, 1, 1, 0),
         &[0usize, 0],
         &[0.0, 0.0, 1.0],
         &[weight],
@@ -155,10 +161,7 @@ fn two_cameras(name: &[u8], route: usize) {
     let mut cameras = [7.0; 6];
     let mut placed = [7.0; 0];
     let given = placement::solve(
-        2,
-        0,
-        0,
-        1,
+        shape(2, 0, 0, 1),
         &[0usize, 1],
         &[1.0, 0.0, 0.0],
         &[1e300],
@@ -181,10 +184,7 @@ fn three_cameras(name: &[u8], limit: usize) {
     let mut cameras = [7.0; 9];
     let mut placed = [7.0; 6];
     let given = placement::solve(
-        3,
-        2,
-        3,
-        0,
+        shape(3, 2, 3, 0),
         &[1usize, 0, 2, 0, 0, 1],
         &[0.0, 0.0, 1.0, 0.0, 0.0, 1.0, 0.0, 0.0, 1.0],
         &[1e200, 1e200, 1e201],

@@ -1,26 +1,47 @@
 // The entry points for C and Rust to link. A slice is a pointer and then a length.
+mod codes;
+
+use codes::answer_code;
+use codes::connectivity_code;
+use codes::connectivity_report;
+use codes::counted_code;
+use codes::length_code;
+use codes::length_report;
+use codes::listing_code;
+use codes::listing_report;
+use codes::put;
+use codes::put_answer;
+use codes::put_counted;
+use codes::verdict_code;
+use codes::verdict_report;
+use codes::written_code;
+use codes::written_report;
+use network::Shape;
 ghost use mathlib.Core.Path.{_≡_};
-ghost use lib.Ieee.{binary64};
-ghost use lib.ListN.{set as stored};
-ghost use Rattle.sqrt.specs.Root.{root};
-ghost use lib.ListN.{length};
-ghost use lib.Dec.{eqb};
 ghost use mathlib.Core.Bool.{not};
-ghost use Rattle.network.specs.Network.{lent, shape, graph as graphOf};
-ghost use Rattle.network.specs.Refusals.{lengthOf};
+ghost use lib.Dec.{eqb};
+ghost use lib.Ieee.{binary64};
+ghost use lib.ListN.{length};
+ghost use Rattle.sqrt.specs.Root.{root};
+ghost use Rattle.network.specs.Network.{shape as shapeOf, graph as graphOf, network as networkOf};
+ghost use Rattle.system.specs.Work.{lengthOf};
 ghost use Rattle.recover.specs.Contracts.{placed as placedOf};
 ghost use Rattle.placement.specs.Routes.{submission};
 ghost use Rattle.layout.specs.Image.{content};
-ghost use Rattle.image.specs.Reading.{shapeAt};
-ghost use Rattle.exports.specs.Codes.{connectivityCode, connectivityReport, listingCode, listingReport, lengthCode, lengthReport, verdictCode, verdictReport, answerCode, answerReport, countedCode, countedReport, sizesReport, writtenCode, writtenReport, ConnectedCall, PartsCall, LengthCall, DotsCall, ScalesCall, SolveCall, CountsCall, ReadCall, WriteCall, ListCall};
-use graph::Connectivity;
-use graph::Listing;
-use image::Counted;
-use image::Sizes;
-use image::Written;
-use network::Length;
-use network::Verdict;
-use placement::Answer;
+ghost use Rattle.image.specs.Calls.{lists as listsOf};
+ghost use Rattle.exports.specs.Calls.{ConnectedCall, PartsCall, LengthCall, DotsCall, ScalesCall, SolveCall};
+ghost use Rattle.exports.specs.Calls.{CountsCall, ReadCall, WriteCall, ListCall};
+
+fn shape(n: usize, m: usize, b: usize, e: usize) -> Shape
+    ensures { λ r. ⌜ r ≡ shapeOf n m b e ⌝ }
+{
+    Shape {
+        cameras: n,
+        points: m,
+        bearings: b,
+        directions: e,
+    }
+}
 
 // The square root, correctly rounded.
 #[no_mangle]
@@ -30,54 +51,7 @@ pub extern "C" fn vobzeile_sqrt(x: f64) -> f64
     sqrt::sqrt(x)
 }
 
-// x as the first number of a report that has one.
-fn put(report: &mut [usize], x: usize)
-    ensures { λ _. ⌜ now (report .exit) ≡ stored (now (report .entry)) 0 x ⌝ }
-{
-    if 0 < report.len() {
-        report[0] = x;
-    }
-}
-
-fn connectivity_code(a: Connectivity) -> usize
-    ensures { λ r. ⌜ r ≡ connectivityCode a ⌝ }
-{
-    match a {
-        Connectivity::Refused(r) => r.number,
-        Connectivity::Connected => 0,
-        Connectivity::Disconnected => 0,
-    }
-}
-
-fn connectivity_report(a: Connectivity) -> usize
-    ensures { λ r. ⌜ r ≡ connectivityReport a ⌝ }
-{
-    match a {
-        Connectivity::Refused(r) => r.place,
-        Connectivity::Connected => 1,
-        Connectivity::Disconnected => 0,
-    }
-}
-
-fn listing_code(a: Listing) -> usize
-    ensures { λ r. ⌜ r ≡ listingCode a ⌝ }
-{
-    match a {
-        Listing::Refused(r) => r.number,
-        Listing::Parts(_) => 0,
-    }
-}
-
-fn listing_report(a: Listing) -> usize
-    ensures { λ r. ⌜ r ≡ listingReport a ⌝ }
-{
-    match a {
-        Listing::Refused(r) => r.place,
-        Listing::Parts(k) => k,
-    }
-}
-
-// Whether every camera hangs together with camera 0: 0 with 1 or 0 in the report, or the refusal's number with its place there.
+// Whether a walk of joined nodes leads from camera 0 to every camera: 0 with 1 or 0 in the report, or the refusal's number with its place there.
 #[no_mangle]
 pub extern "C" fn vobzeile_connected(
     n: usize,
@@ -89,9 +63,10 @@ pub extern "C" fn vobzeile_connected(
     nodes: &mut [usize],
     report: &mut [usize],
 ) -> usize
-    ensures { λ r. ⌜ ConnectedCall (graphOf (shape n m b e) (now (ends .entry)) (now (weights .entry))) r (now (nodes .entry)) (now (nodes .exit)) (now (report .entry)) (now (report .exit)) ⌝ }
+    ensures { λ r. ⌜ ConnectedCall (graphOf (shapeOf n m b e) (now (ends .entry)) (now (weights .entry))) r
+        (now (nodes .entry)) (now (nodes .exit)) (now (report .entry)) (now (report .exit)) ⌝ }
 {
-    let answer = graph::is_connected(n, m, b, e, ends, weights, nodes);
+    let answer = graph::is_connected(shape(n, m, b, e), ends, weights, nodes);
     put(report, connectivity_report(answer));
     connectivity_code(answer)
 }
@@ -109,73 +84,12 @@ pub extern "C" fn vobzeile_parts(
     labels: &mut [usize],
     report: &mut [usize],
 ) -> usize
-    ensures { λ r. ⌜ PartsCall (graphOf (shape n m b e) (now (ends .entry)) (now (weights .entry))) r (now (nodes .entry)) (now (nodes .exit)) (now (labels .entry)) (now (labels .exit)) (now (report .entry)) (now (report .exit)) ⌝ }
+    ensures { λ r. ⌜ PartsCall (graphOf (shapeOf n m b e) (now (ends .entry)) (now (weights .entry))) r
+        (now (nodes .entry)) (now (nodes .exit)) (now (labels .entry)) (now (labels .exit)) (now (report .entry)) (now (report .exit)) ⌝ }
 {
-    let answer = graph::parts(n, m, b, e, ends, weights, nodes, labels);
+    let answer = graph::parts(shape(n, m, b, e), ends, weights, nodes, labels);
     put(report, listing_report(answer));
     listing_code(answer)
-}
-
-fn length_code(a: Length) -> usize
-    ensures { λ r. ⌜ r ≡ lengthCode a ⌝ }
-{
-    match a {
-        Length::Refused(r) => r.number,
-        Length::Of(_) => 0,
-    }
-}
-
-fn length_report(a: Length) -> usize
-    ensures { λ r. ⌜ r ≡ lengthReport a ⌝ }
-{
-    match a {
-        Length::Refused(r) => r.place,
-        Length::Of(t) => t,
-    }
-}
-
-fn verdict_code(a: Verdict) -> usize
-    ensures { λ r. ⌜ r ≡ verdictCode a ⌝ }
-{
-    match a {
-        Verdict::Refused(r) => r.number,
-        Verdict::Passed => 0,
-    }
-}
-
-fn verdict_report(a: Verdict) -> usize
-    ensures { λ r. ⌜ r ≡ verdictReport a ⌝ }
-{
-    match a {
-        Verdict::Refused(r) => r.place,
-        Verdict::Passed => 0,
-    }
-}
-
-fn answer_code(a: Answer) -> usize
-    ensures { λ r. ⌜ r ≡ answerCode a ⌝ }
-{
-    match a {
-        Answer::Refused(r) => r.number,
-        Answer::Accepted(_) => 0,
-    }
-}
-
-// The place of a refusal, or anchor, route and rounds, in a report of three numbers.
-fn put_answer(report: &mut [usize], a: Answer)
-    requires { ⌜ length (now report) ≡ 3 ⌝ }
-    ensures { λ _. ⌜ now (report .exit) ≡ answerReport a (now (report .entry)) ⌝ }
-{
-    match a {
-        Answer::Refused(r) => {
-            report[0] = r.place;
-        }
-        Answer::Accepted(p) => {
-            report[0] = p.anchor;
-            report[1] = p.route;
-            report[2] = p.rounds;
-        }
-    }
 }
 
 // The doubles that the work buffer of a solve needs, in the report: 0, or the refusal's number with its place there.
@@ -189,14 +103,15 @@ pub extern "C" fn vobzeile_work_length(
     limit: usize,
     report: &mut [usize],
 ) -> usize
-    ensures { λ r. ⌜ LengthCall (lengthOf (shape n m b e) route limit) r (now (report .entry)) (now (report .exit)) ⌝ }
+    ensures { λ r. ⌜ LengthCall (lengthOf (shapeOf n m b e) route limit) r (now (report .entry)) (now (report .exit)) ⌝ }
 {
-    let answer = network::work_length(n, m, b, e, route, limit);
+    let answer = system::work::work_length(shape(n, m, b, e), route, limit);
     put(report, length_report(answer));
     length_code(answer)
 }
 
-// The dot of each row with its baseline, bearings first: 0, or the refusal's number with its place in the report. The cameras are those of `trial` where the mark is not 0, else of `current`.
+// The dot of each row with its baseline, bearings first: 0, or the refusal's number with its place in the report. The cameras are those of
+// `trial` where the mark is not 0, else of `current`.
 #[no_mangle]
 pub extern "C" fn vobzeile_dots<'a>(
     n: usize,
@@ -209,27 +124,28 @@ pub extern "C" fn vobzeile_dots<'a>(
     scales: &[f64],
     points: &[f64],
     offsets: &[usize],
-    rows: &[usize],
+    listed: &[usize],
     current: &'a [f64],
     trial: &'a [f64],
     mark: usize,
     out: &mut [f64],
     report: &mut [usize],
 ) -> usize
-    ensures { λ r. ⌜ DotsCall (placedOf (lent n m b e (now (ends .entry)) (now (rays .entry)) (now (weights .entry)) (now (scales .entry)) (now (points .entry)) (now (offsets .entry)) (now (rows .entry))) (now (current .entry)) (now (trial .entry)) (not (eqb mark 0)) (length (now (out .entry)))) r (now (out .entry)) (now (out .exit)) (now (report .entry)) (now (report .exit)) ⌝ }
+    ensures { λ r. ⌜ DotsCall (placedOf
+        (networkOf (shapeOf n m b e) (now (ends .entry)) (now (rays .entry)) (now (weights .entry)) (now (scales .entry))
+        (now (points .entry)) (now (offsets .entry)) (now (listed .entry)))
+        (now (current .entry)) (now (trial .entry)) (not (eqb mark 0)) (length (now (out .entry))))
+        r (now (out .entry)) (now (out .exit)) (now (report .entry)) (now (report .exit)) ⌝ }
 {
     let verdict = recover::dots(
-        n,
-        m,
-        b,
-        e,
+        shape(n, m, b, e),
         ends,
         rays,
         weights,
         scales,
         points,
         offsets,
-        rows,
+        listed,
         current,
         trial,
         mark != 0,
@@ -239,7 +155,8 @@ pub extern "C" fn vobzeile_dots<'a>(
     verdict_code(verdict)
 }
 
-// The scale of each row, kept or renewed, bearings first: 0, or the refusal's number with its place in the report. The cameras are those of `trial` where the mark is not 0, else of `current`.
+// The scale of each row, kept or renewed, bearings first: 0, or the refusal's number with its place in the report. The cameras are those of
+// `trial` where the mark is not 0, else of `current`.
 #[no_mangle]
 pub extern "C" fn vobzeile_scales<'a>(
     n: usize,
@@ -252,27 +169,28 @@ pub extern "C" fn vobzeile_scales<'a>(
     scales: &[f64],
     points: &[f64],
     offsets: &[usize],
-    rows: &[usize],
+    listed: &[usize],
     current: &'a [f64],
     trial: &'a [f64],
     mark: usize,
     out: &mut [f64],
     report: &mut [usize],
 ) -> usize
-    ensures { λ r. ⌜ ScalesCall (placedOf (lent n m b e (now (ends .entry)) (now (rays .entry)) (now (weights .entry)) (now (scales .entry)) (now (points .entry)) (now (offsets .entry)) (now (rows .entry))) (now (current .entry)) (now (trial .entry)) (not (eqb mark 0)) (length (now (out .entry)))) r (now (out .entry)) (now (out .exit)) (now (report .entry)) (now (report .exit)) ⌝ }
+    ensures { λ r. ⌜ ScalesCall (placedOf
+        (networkOf (shapeOf n m b e) (now (ends .entry)) (now (rays .entry)) (now (weights .entry)) (now (scales .entry))
+        (now (points .entry)) (now (offsets .entry)) (now (listed .entry)))
+        (now (current .entry)) (now (trial .entry)) (not (eqb mark 0)) (length (now (out .entry))))
+        r (now (out .entry)) (now (out .exit)) (now (report .entry)) (now (report .exit)) ⌝ }
 {
     let verdict = recover::scales(
-        n,
-        m,
-        b,
-        e,
+        shape(n, m, b, e),
         ends,
         rays,
         weights,
         scales,
         points,
         offsets,
-        rows,
+        listed,
         current,
         trial,
         mark != 0,
@@ -296,7 +214,7 @@ pub extern "C" fn vobzeile_solve(
     scales: &[f64],
     points: &[f64],
     offsets: &[usize],
-    rows: &[usize],
+    listed: &[usize],
     route: usize,
     limit: usize,
     work: &mut [f64],
@@ -304,23 +222,25 @@ pub extern "C" fn vobzeile_solve(
     placed: &mut [f64],
     report: &mut [usize],
 ) -> usize
-    ensures { λ r. ⌜ SolveCall (submission (lent n m b e (now (ends .entry)) (now (rays .entry)) (now (weights .entry)) (now (scales .entry)) (now (points .entry)) (now (offsets .entry)) (now (rows .entry))) route limit (length (now (work .entry))) (length (now (cameras .entry))) (length (now (placed .entry)))) r (now (work .entry)) (now (work .exit)) (now (cameras .entry)) (now (cameras .exit)) (now (placed .entry)) (now (placed .exit)) (now (report .entry)) (now (report .exit)) ⌝ }
+    ensures { λ r. ⌜ SolveCall (submission
+        (networkOf (shapeOf n m b e) (now (ends .entry)) (now (rays .entry)) (now (weights .entry)) (now (scales .entry))
+        (now (points .entry)) (now (offsets .entry)) (now (listed .entry)))
+        route limit (length (now (work .entry))) (length (now (cameras .entry))) (length (now (placed .entry))))
+        r (now (work .entry)) (now (work .exit)) (now (cameras .entry)) (now (cameras .exit)) (now (placed .entry)) (now (placed .exit))
+        (now (report .entry)) (now (report .exit)) ⌝ }
 {
     if report.len() != 3 {
         return 3;
     }
     let answer = placement::solve(
-        n,
-        m,
-        b,
-        e,
+        shape(n, m, b, e),
         ends,
         rays,
         weights,
         scales,
         points,
         offsets,
-        rows,
+        listed,
         route,
         limit,
         work,
@@ -329,59 +249,6 @@ pub extern "C" fn vobzeile_solve(
     );
     put_answer(report, answer);
     answer_code(answer)
-}
-
-fn counted_code(a: Counted) -> usize
-    ensures { λ r. ⌜ r ≡ countedCode a ⌝ }
-{
-    match a {
-        Counted::Refused(r) => r.number,
-        Counted::Of(_) => 0,
-    }
-}
-
-// n, m, B, E in a report of four numbers.
-fn put_sizes(report: &mut [usize], s: Sizes)
-    requires { ⌜ length (now report) ≡ 4 ⌝ }
-    ensures { λ _. ⌜ now (report .exit) ≡ sizesReport s (now (report .entry)) ⌝ }
-{
-    report[0] = s.n;
-    report[1] = s.m;
-    report[2] = s.b;
-    report[3] = s.e;
-}
-
-// The place of a refusal, or the four counts.
-fn put_counted(report: &mut [usize], a: Counted)
-    requires { ⌜ length (now report) ≡ 4 ⌝ }
-    ensures { λ _. ⌜ now (report .exit) ≡ countedReport a (now (report .entry)) ⌝ }
-{
-    match a {
-        Counted::Refused(r) => {
-            report[0] = r.place;
-        }
-        Counted::Of(s) => {
-            put_sizes(report, s);
-        }
-    }
-}
-
-fn written_code(a: Written) -> usize
-    ensures { λ r. ⌜ r ≡ writtenCode a ⌝ }
-{
-    match a {
-        Written::Refused(r) => r.number,
-        Written::Bytes(_) => 0,
-    }
-}
-
-fn written_report(a: Written) -> usize
-    ensures { λ r. ⌜ r ≡ writtenReport a ⌝ }
-{
-    match a {
-        Written::Refused(r) => r.place,
-        Written::Bytes(k) => k,
-    }
 }
 
 // The counts of an image: 0 with n, m, B, E in the report, or the refusal's number with its place as the report's first number. A report that
@@ -409,7 +276,10 @@ pub extern "C" fn vobzeile_read(
     points: &mut [f64],
     report: &mut [usize],
 ) -> usize
-    ensures { λ r. ⌜ ReadCall (now (bytes .entry)) (content (shapeAt 36 (now (bytes .entry))) (now (ends .entry)) (now (rays .entry)) (now (weights .entry)) (now (scales .entry)) (now (points .entry))) (content (shapeAt 36 (now (bytes .entry))) (now (ends .exit)) (now (rays .exit)) (now (weights .exit)) (now (scales .exit)) (now (points .exit))) r (now (report .entry)) (now (report .exit)) ⌝ }
+    ensures { λ r. ⌜ ReadCall (now (bytes .entry))
+        (listsOf (now (ends .entry)) (now (rays .entry)) (now (weights .entry)) (now (scales .entry)) (now (points .entry)))
+        (listsOf (now (ends .exit)) (now (rays .exit)) (now (weights .exit)) (now (scales .exit)) (now (points .exit)))
+        r (now (report .entry)) (now (report .exit)) ⌝ }
 {
     if report.len() != 4 {
         return 3;
@@ -434,9 +304,11 @@ pub extern "C" fn vobzeile_write(
     out: &mut [u8],
     report: &mut [usize],
 ) -> usize
-    ensures { λ r. ⌜ WriteCall (content (shape n m b e) (now (ends .entry)) (now (rays .entry)) (now (weights .entry)) (now (scales .entry)) (now (points .entry))) (now (out .entry)) (now (out .exit)) r (now (report .entry)) (now (report .exit)) ⌝ }
+    ensures { λ r. ⌜ WriteCall
+        (content (shapeOf n m b e) (now (ends .entry)) (now (rays .entry)) (now (weights .entry)) (now (scales .entry)) (now (points .entry)))
+        (now (out .entry)) (now (out .exit)) r (now (report .entry)) (now (report .exit)) ⌝ }
 {
-    let answer = image::write(n, m, b, e, ends, rays, weights, scales, points, out);
+    let answer = image::write(shape(n, m, b, e), ends, rays, weights, scales, points, out);
     put(report, written_report(answer));
     written_code(answer)
 }
@@ -448,12 +320,13 @@ pub extern "C" fn vobzeile_list_points(
     b: usize,
     ends: &[usize],
     offsets: &mut [usize],
-    rows: &mut [usize],
+    listed: &mut [usize],
     report: &mut [usize],
 ) -> usize
-    ensures { λ r. ⌜ ListCall m b (now (ends .entry)) (now (offsets .entry)) (now (offsets .exit)) (now (rows .entry)) (now (rows .exit)) r (now (report .entry)) (now (report .exit)) ⌝ }
+    ensures { λ r. ⌜ ListCall m b (now (ends .entry)) (now (offsets .entry)) (now (offsets .exit)) (now (listed .entry)) (now (listed .exit)) r
+        (now (report .entry)) (now (report .exit)) ⌝ }
 {
-    let verdict = lists::list_points(m, b, ends, offsets, rows);
+    let verdict = lists::list_points(m, b, ends, offsets, listed);
     put(report, verdict_report(verdict));
     verdict_code(verdict)
 }

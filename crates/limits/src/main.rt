@@ -10,10 +10,10 @@ use network::Refusal;
 use network::Shape;
 use network::Verdict;
 use network::check_counts;
-use stages::Length;
 use stages::check_solve;
 use stages::check_step;
-use stages::work_length;
+use system::work::Length;
+use system::work::work_length;
 
 fn shape(n: usize, m: usize, b: usize, e: usize) -> Shape {
     Shape {
@@ -63,6 +63,20 @@ fn length(n: usize, route: usize, limit: usize) {
 }
 
 // The network of the tests: three cameras, two points; bearings 0-0, 1-0, 2-1 and the direction 0-1.
+const ENDS: [usize; 8] = [0, 0, 1, 0, 2, 1, 0, 1];
+
+const RAYS: [f64; 12] = [0.0, 0.0, 1.0, 0.0, 0.0, 1.0, 0.0, 0.0, 1.0, 1.0, 0.0, 0.0];
+
+const WEIGHTS: [f64; 4] = [1.0, 1.0, 1.0, 1.0];
+
+const SCALES: [f64; 4] = [1.0, 1.0, 1.0, 1.0];
+
+const POINTS: [f64; 6] = [5.0, 5.0, 5.0, 6.0, 6.0, 6.0];
+
+const OFFSETS: [usize; 3] = [0, 2, 3];
+
+const LISTED: [usize; 3] = [0, 1, 2];
+
 struct Case {
     ends: [usize; 8],
     rays: [f64; 12],
@@ -75,13 +89,13 @@ struct Case {
 
 fn good() -> Case {
     Case {
-        ends: [0, 0, 1, 0, 2, 1, 0, 1],
-        rays: [0.0, 0.0, 1.0, 0.0, 0.0, 1.0, 0.0, 0.0, 1.0, 1.0, 0.0, 0.0],
-        weights: [1.0, 1.0, 1.0, 1.0],
-        scales: [1.0, 1.0, 1.0, 1.0],
-        points: [5.0, 5.0, 5.0, 6.0, 6.0, 6.0],
-        offsets: [0, 2, 3],
-        listed: [0, 1, 2],
+        ends: ENDS,
+        rays: RAYS,
+        weights: WEIGHTS,
+        scales: SCALES,
+        points: POINTS,
+        offsets: OFFSETS,
+        listed: LISTED,
     }
 }
 
@@ -151,152 +165,122 @@ fn with_lists(name: &[u8], offsets: [usize; 3], listed: [usize; 3]) {
     solve(name, c, 2, 0);
 }
 
+// 1 to 7 of such lists.
+fn step(
+    name: &[u8],
+    ends: &[usize],
+    rays: &[f64],
+    weights: &[f64],
+    scales: &[f64],
+    points: &[f64],
+    offsets: &[usize],
+    listed: &[usize],
+) {
+    verdict(
+        name,
+        check_step(
+            shape(3, 2, 3, 1),
+            ends,
+            rays,
+            weights,
+            scales,
+            points,
+            offsets,
+            listed,
+        ),
+    );
+}
+
 // The good network with one slice in the place of its own.
 fn ends_of(name: &[u8], ends: &[usize]) {
-    let c = good();
-    let rays = c.rays;
-    let weights = c.weights;
-    let scales = c.scales;
-    let points = c.points;
-    let offsets = c.offsets;
-    let listed = c.listed;
-    let v = check_step(
-        shape(3, 2, 3, 1),
+    step(
+        name,
         ends,
-        &rays,
-        &weights,
-        &scales,
-        &points,
-        &offsets,
-        &listed,
+        &RAYS,
+        &WEIGHTS,
+        &SCALES,
+        &POINTS,
+        &OFFSETS,
+        &LISTED,
     );
-    verdict(name, v);
 }
 
 fn rays_of(name: &[u8], rays: &[f64]) {
-    let c = good();
-    let ends = c.ends;
-    let weights = c.weights;
-    let scales = c.scales;
-    let points = c.points;
-    let offsets = c.offsets;
-    let listed = c.listed;
-    let v = check_step(
-        shape(3, 2, 3, 1),
-        &ends,
+    step(
+        name,
+        &ENDS,
         rays,
-        &weights,
-        &scales,
-        &points,
-        &offsets,
-        &listed,
+        &WEIGHTS,
+        &SCALES,
+        &POINTS,
+        &OFFSETS,
+        &LISTED,
     );
-    verdict(name, v);
 }
 
 fn weights_of(name: &[u8], weights: &[f64]) {
-    let c = good();
-    let ends = c.ends;
-    let rays = c.rays;
-    let scales = c.scales;
-    let points = c.points;
-    let offsets = c.offsets;
-    let listed = c.listed;
-    let v = check_step(
-        shape(3, 2, 3, 1),
-        &ends,
-        &rays,
+    step(
+        name,
+        &ENDS,
+        &RAYS,
         weights,
-        &scales,
-        &points,
-        &offsets,
-        &listed,
+        &SCALES,
+        &POINTS,
+        &OFFSETS,
+        &LISTED,
     );
-    verdict(name, v);
 }
 
 fn scales_of(name: &[u8], scales: &[f64]) {
-    let c = good();
-    let ends = c.ends;
-    let rays = c.rays;
-    let weights = c.weights;
-    let points = c.points;
-    let offsets = c.offsets;
-    let listed = c.listed;
-    let v = check_step(
-        shape(3, 2, 3, 1),
-        &ends,
-        &rays,
-        &weights,
+    step(
+        name,
+        &ENDS,
+        &RAYS,
+        &WEIGHTS,
         scales,
-        &points,
-        &offsets,
-        &listed,
+        &POINTS,
+        &OFFSETS,
+        &LISTED,
     );
-    verdict(name, v);
 }
 
 fn points_of(name: &[u8], points: &[f64]) {
-    let c = good();
-    let ends = c.ends;
-    let rays = c.rays;
-    let weights = c.weights;
-    let scales = c.scales;
-    let offsets = c.offsets;
-    let listed = c.listed;
-    let v = check_step(
-        shape(3, 2, 3, 1),
-        &ends,
-        &rays,
-        &weights,
-        &scales,
+    step(
+        name,
+        &ENDS,
+        &RAYS,
+        &WEIGHTS,
+        &SCALES,
         points,
-        &offsets,
-        &listed,
+        &OFFSETS,
+        &LISTED,
     );
-    verdict(name, v);
 }
 
 fn offsets_of(name: &[u8], offsets: &[usize]) {
-    let c = good();
-    let ends = c.ends;
-    let rays = c.rays;
-    let weights = c.weights;
-    let scales = c.scales;
-    let points = c.points;
-    let listed = c.listed;
-    let v = check_step(
-        shape(3, 2, 3, 1),
-        &ends,
-        &rays,
-        &weights,
-        &scales,
-        &points,
+    step(
+        name,
+        &ENDS,
+        &RAYS,
+        &WEIGHTS,
+        &SCALES,
+        &POINTS,
         offsets,
-        &listed,
+        &LISTED,
     );
-    verdict(name, v);
 }
 
 fn listed_of(name: &[u8], listed: &[usize]) {
-    let c = good();
-    let ends = c.ends;
-    let rays = c.rays;
-    let weights = c.weights;
-    let scales = c.scales;
-    let points = c.points;
-    let offsets = c.offsets;
-    let v = check_step(
-        shape(3, 2, 3, 1),
-        &ends,
-        &rays,
-        &weights,
-        &scales,
-        &points,
-        &offsets,
+    step(
+        name,
+        &ENDS,
+        &RAYS,
+        &WEIGHTS,
+        &SCALES,
+        &POINTS,
+        &OFFSETS,
         listed,
     );
-    verdict(name, v);
 }
 
 // A graph of n cameras, the direction 0-1 of weight 1 and 1-2 of weight v.

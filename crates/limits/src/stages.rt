@@ -1,5 +1,4 @@
-// The tests of a solve, stage after stage, and the length of its work buffer.
-use network::Refusal;
+// The tests of a solve, stage after stage.
 use network::Shape;
 use network::Verdict;
 use network::check_counts;
@@ -7,14 +6,6 @@ use network::check_network_rows;
 use network::lengths::check_lengths;
 use network::lengths::network_fits;
 use network::route::check_route;
-use network::route::dense_rows;
-ghost use Prim.Native.Nat.{_≤_};
-ghost use Rattle.network.specs.inner.Sound.{ShapeSound};
-
-pub(crate) enum Length {
-    Refused(Refusal),
-    Of(usize),
-}
 
 // 1 to 7.
 pub(crate) fn check_step(
@@ -57,30 +48,4 @@ pub(crate) fn check_solve(
         return Verdict::Refused(r);
     }
     check_route(route, limit)
-}
-
-fn squared(d: usize) -> usize
-    requires { ⌜ d ≤ 256 ⌝ }
-    ensures { λ r. ⌜ r ≤ 65536 ⌝ }
-{
-    d * d
-}
-
-// 23n + 4m + B + E + d² + 3d.
-fn work_total(s: Shape, d: usize) -> usize
-    requires { ⌜ ShapeSound s ⌝ }
-    requires { ⌜ d ≤ 256 ⌝ }
-{
-    let fixed = 23 * s.cameras + 4 * s.points + s.bearings + s.directions;
-    fixed + squared(d) + 3 * d
-}
-
-// The doubles that a solve's work buffer needs.
-pub(crate) fn work_length(s: Shape, route: usize, limit: usize) -> Length {
-    let counts = check_counts(s);
-    if let Verdict::Refused(r) = counts {
-        return Length::Refused(r);
-    }
-    let d = dense_rows(s.cameras, route, limit);
-    Length::Of(work_total(s, d))
 }

@@ -15,11 +15,12 @@ use graph::Connectivity;
 use graph::Listing;
 use io::print_decimal;
 use io::write_all;
-use network::Length;
 use network::Refusal;
 use network::Verdict;
 use network::answers::both;
 use placement::Answer;
+use system::work::Length;
+use system::work::work_length;
 
 // What the buffers hold before a call: the work buffer, and every output.
 const JUNK: f64 = 1.5e300;
@@ -67,10 +68,7 @@ fn lacking(number: usize, what: &[u8]) -> Found {
 fn connected(case: Case, p: Layout, wholes: &[usize], reals: &[f64]) -> usize {
     let mut nodes = [7usize; 128];
     match graph::is_connected(
-        case.n,
-        case.m,
-        case.b,
-        case.e,
+        case.shape,
         some_wholes(wholes, 0, p.ends),
         some_reals(reals, p.rays, p.weights),
         &mut nodes,
@@ -131,16 +129,13 @@ fn list_parts(
     input: &[u8],
     at: usize,
 ) -> Found {
-    let n = case.n;
+    let n = case.shape.cameras;
     if labels.len() < n {
         return lacking(case.number, b"parts");
     }
     let part = &mut labels[0..n];
     let listing = graph::parts(
-        n,
-        case.m,
-        case.b,
-        case.e,
+        case.shape,
         some_wholes(wholes, 0, p.ends),
         some_reals(reals, p.rays, p.weights),
         nodes,
@@ -164,7 +159,7 @@ pub(crate) fn check_parts(
 
 // The doubles that the solve's work buffer needs.
 fn needed(case: Case) -> usize {
-    match network::work_length(case.n, case.m, case.b, case.e, case.route, case.limit) {
+    match work_length(case.shape, case.route, case.limit) {
         Length::Refused(_) => 0,
         Length::Of(length) => length,
     }
@@ -209,17 +204,14 @@ fn solve_into(
         return unsolved();
     }
     placement::solve(
-        case.n,
-        case.m,
-        case.b,
-        case.e,
+        case.shape,
         some_wholes(wholes, 0, p.ends),
         some_reals(reals, 0, p.rays),
         some_reals(reals, p.rays, p.weights),
         some_reals(reals, p.weights, p.scales),
         some_reals(reals, p.scales, p.points),
         some_wholes(wholes, p.ends, p.offsets),
-        some_wholes(wholes, p.offsets, p.rows),
+        some_wholes(wholes, p.offsets, p.listed),
         case.route,
         case.limit,
         &mut work[0..t],
@@ -398,17 +390,14 @@ fn dots_into<'a>(
 ) -> usize {
     let current = some_reals(reals, p.points, p.positions);
     let verdict = recover::dots(
-        case.n,
-        case.m,
-        case.b,
-        case.e,
+        case.shape,
         some_wholes(wholes, 0, p.ends),
         some_reals(reals, 0, p.rays),
         some_reals(reals, p.rays, p.weights),
         some_reals(reals, p.weights, p.scales),
         some_reals(reals, p.scales, p.points),
         some_wholes(wholes, p.ends, p.offsets),
-        some_wholes(wholes, p.offsets, p.rows),
+        some_wholes(wholes, p.offsets, p.listed),
         current,
         trial,
         false,
@@ -428,17 +417,14 @@ fn scales_into<'a>(
 ) -> usize {
     let current = some_reals(reals, p.points, p.positions);
     let verdict = recover::scales(
-        case.n,
-        case.m,
-        case.b,
-        case.e,
+        case.shape,
         some_wholes(wholes, 0, p.ends),
         some_reals(reals, 0, p.rays),
         some_reals(reals, p.rays, p.weights),
         some_reals(reals, p.weights, p.scales),
         some_reals(reals, p.scales, p.points),
         some_wholes(wholes, p.ends, p.offsets),
-        some_wholes(wholes, p.offsets, p.rows),
+        some_wholes(wholes, p.offsets, p.listed),
         current,
         trial,
         false,

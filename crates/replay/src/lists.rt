@@ -1,15 +1,13 @@
-// The numbers of a case in two buffers: one of usize with ends, offsets and rows, one of doubles with the other lists.
+// The numbers of a case in two buffers: one of usize with ends, offsets and listed rows, one of doubles with the other lists.
 use crate::text::read_reals;
 use crate::text::read_wholes;
+use network::Shape;
 ghost use Prim.Native.Nat.{_≤_};
 
 // The counts of a case and what is asked of the solve.
 pub(crate) struct Case {
     pub number: usize,
-    pub n: usize,
-    pub m: usize,
-    pub b: usize,
-    pub e: usize,
+    pub shape: Shape,
     pub route: usize,
     pub limit: usize,
 }
@@ -18,7 +16,7 @@ pub(crate) struct Case {
 pub(crate) struct Layout {
     pub ends: usize,
     pub offsets: usize,
-    pub rows: usize,
+    pub listed: usize,
     pub rays: usize,
     pub weights: usize,
     pub scales: usize,
@@ -26,22 +24,22 @@ pub(crate) struct Layout {
     pub positions: usize,
 }
 
-pub(crate) fn laid_out(case: Case) -> Layout
-    requires { ⌜ (case .n ≤ 64) × (case .m ≤ 64) ⌝ }
-    requires { ⌜ (case .b ≤ 64) × (case .e ≤ 64) ⌝ }
+pub(crate) fn laid_out(s: Shape) -> Layout
+    requires { ⌜ (s .cameras ≤ 64) × (s .points ≤ 64) ⌝ }
+    requires { ⌜ (s .bearings ≤ 64) × (s .directions ≤ 64) ⌝ }
 {
-    let k = case.b + case.e;
-    let offsets = 2 * k + case.m + 1;
-    let points = 5 * k + 3 * case.m;
+    let k = s.bearings + s.directions;
+    let offsets = 2 * k + s.points + 1;
+    let points = 5 * k + 3 * s.points;
     Layout {
         ends: 2 * k,
         offsets,
-        rows: offsets + case.b,
+        listed: offsets + s.bearings,
         rays: 3 * k,
         weights: 4 * k,
         scales: 5 * k,
         points,
-        positions: points + 3 * case.n,
+        positions: points + 3 * s.cameras,
     }
 }
 
@@ -69,8 +67,8 @@ pub(crate) fn read_nodes(
 ) -> usize {
     let points = read_reals(input, at, b"points", reals, p.scales, p.points);
     let offsets = read_wholes(input, points, b"offsets", wholes, p.ends, p.offsets);
-    let rows = read_wholes(input, offsets, b"rows", wholes, p.offsets, p.rows);
-    read_reals(input, rows, b"positions", reals, p.points, p.positions)
+    let listed = read_wholes(input, offsets, b"rows", wholes, p.offsets, p.listed);
+    read_reals(input, listed, b"positions", reals, p.points, p.positions)
 }
 
 // The numbers from `from` to `to`, or none where any is lacking.

@@ -18,6 +18,7 @@ use lists::Layout;
 use lists::laid_out;
 use lists::read_nodes;
 use lists::read_rows;
+use network::Shape;
 use text::Found;
 use text::LOST;
 use text::decimal;
@@ -43,10 +44,12 @@ fn read_head(input: &[u8], at: usize) -> Head {
     let limit = decimal(input, route.next);
     let case = Case {
         number: number.value,
-        n: n.value,
-        m: m.value,
-        b: b.value,
-        e: e.value,
+        shape: Shape {
+            cameras: n.value,
+            points: m.value,
+            bearings: b.value,
+            directions: e.value,
+        },
         route: route.value,
         limit: limit.value,
     };
@@ -98,19 +101,20 @@ fn too_large() -> Found {
 
 fn replay(head: Head, input: &[u8], tally: &mut [usize]) -> Found {
     let case = head.case;
-    if 64 < case.n {
+    let s = case.shape;
+    if 64 < s.cameras {
         return too_large();
     }
-    if 64 < case.m {
+    if 64 < s.points {
         return too_large();
     }
-    if 64 < case.b {
+    if 64 < s.bearings {
         return too_large();
     }
-    if 64 < case.e {
+    if 64 < s.directions {
         return too_large();
     }
-    replay_lists(case, laid_out(case), input, head.next, tally)
+    replay_lists(case, laid_out(s), input, head.next, tally)
 }
 
 // The place after a line.
