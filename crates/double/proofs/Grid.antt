@@ -2,7 +2,8 @@
 -- and known by its fraction. Assumes nothing.
 use mathlib.Core.Path.{_≡_, refl, sym, ap, _∙_, subst}
 use Prim.Native.Nat.{ℕ, zero, suc, _+_, _-_, _*_, _/_, _%_, _^_, _≤_, _<_}
-use native.Mathlib.Nat.{le-of-eq, lt-of-lt-of-le, lt-of-le-of-lt, lt-of-not-le, not-le-of-lt, le-of-suc-le-suc, zero-mul, mul-one, mul-assoc, mul-comm, mul-right-comm, mul-lt-mul-of-pos-right, lt-of-mul-lt-mul-right, mul-pos}
+use native.Mathlib.Nat.{le-of-eq, lt-of-lt-of-le, lt-of-le-of-lt, lt-of-not-le, not-le-of-lt, le-of-suc-le-suc, zero-mul, mul-one, mul-assoc, mul-comm, mul-right-comm, mul-lt-mul-of-pos-right}
+use native.Mathlib.Nat.{lt-of-mul-lt-mul-right, mul-pos}
 use mathlib.Core.Bool.{true, false, _&&_, true≢false}
 use lib.IntN.{pos, negsuc}
 use lib.Dec.{T, leb, ltb, eqb, ltb→lt, lt→ltb, leb→le}
@@ -120,7 +121,8 @@ same-value f r s F G c d e =
     sym (ofBits-toBits f r F)
     ∙ ap (ofBits f)
     (bits-are f r c
-    ∙ ap (pattern f) (div-same (num r * 2 ^ low f) (den r) (num s * 2 ^ low f) (den s) (den-pos r) (den-pos s) (mul-right-comm (num r) (2 ^ low f) (den s) ∙ ap (λ (z : ℕ). z * 2 ^ low f) e ∙ mul-right-comm (num s) (den r) (2 ^ low f)))
+    ∙ ap (pattern f) (div-same (num r * 2 ^ low f) (den r) (num s * 2 ^ low f) (den s) (den-pos r) (den-pos s) (mul-right-comm (num r) (2 ^ low f) (den s) ∙ ap (λ (z : ℕ). z * 2 ^ low f) e
+    ∙ mul-right-comm (num s) (den r) (2 ^ low f)))
     ∙ sym (bits-are f s d))
     ∙ ofBits-toBits f s G
 

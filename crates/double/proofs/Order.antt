@@ -4,7 +4,8 @@ use mathlib.Core.Bool.{Bool, true, false, not, cond, _||_, _&&_, and-false, or-t
 use mathlib.Core.Logic.{⊎-elim}
 use Prim.Native.Nat.{ℕ, zero, suc, _+_, _-_, _*_, _<_, _≤_}
 use native.Mathlib.Omega.{arith}
-use native.Mathlib.Nat.{le-refl, le-trans, le-of-eq, le-of-suc-le-suc, eq-or-lt-of-le, zero-lt-suc, le-add-right, add-comm, mul-assoc, mul-comm, mul-right-comm, mul-le-mul-right, mul-pos, zero-mul, mul-zero}
+use native.Mathlib.Nat.{le-refl, le-trans, le-of-eq, le-of-suc-le-suc, eq-or-lt-of-le, zero-lt-suc, le-add-right, add-comm, mul-assoc, mul-comm, mul-right-comm, mul-le-mul-right, mul-pos, zero-mul}
+use native.Mathlib.Nat.{mul-zero}
 use borrow.Author.Tests.{ltb-true, le-ltb, le-leb, eq-eqb, ne-eqb, ltb-false, leb-true, leb-false, eqb-true}
 use lib.Dec.{T, leb, ltb, eqb}
 use lib.Pow.{pow-pos}
@@ -324,7 +325,8 @@ mul-view f infinite (number false n d q) h = past-nan (eqb n 0) false q h
 mul-view f (number true m e p) infinite h = past-nan (eqb m 0) true p h
 mul-view f (number false m e p) infinite h = past-nan (eqb m 0) false p h
 mul-view f (number s m e p) (number t n d q) h =
-    nonneg-round f (unlike s t) (m * up e * (n * up d)) (down e * down d) (mul-pos (down-pos e) (down-pos d)) (sized-product s t (m * up e) (n * up d) (times (up e) (sized s m p)) (times (up d) (sized t n q)))
+    nonneg-round f (unlike s t) (m * up e * (n * up d)) (down e * down d) (mul-pos (down-pos e) (down-pos d))
+    (sized-product s t (m * up e) (n * up d) (times (up e) (sized s m p)) (times (up d) (sized t n q)))
 
 pub nonneg-mul : (f : Format) (x y : Float) → nonneg x ≡ true → nonneg y ≡ true → isNan (mul f x y) ≡ false → nonneg (mul f x y) ≡ true
 nonneg-mul f x y p q h = mul-view f (view x p) (view y q) h
@@ -351,7 +353,8 @@ le-rounded f m e b d F =
     (subst (λ (x : Float). T (le x (round f false (m * up e * down d + b) (down e * down d)))) (round-own f (fin false m e) F tt)
     (round-mono f (m * up e) (down e) (m * up e * down d + b) (down e * down d) (down-pos e) (mul-pos (down-pos e) (down-pos d)) (more (m * up e) b (down e) (down d))))
 
-le-finite-sum : (f : Format) (s : Bool) (m : ℕ) (e : ℤ) (t : Bool) (n : ℕ) (d : ℤ) → (not s || eqb m 0) ≡ true → (not t || eqb n 0) ≡ true → T (fits f (fin s m e)) → le (fin s m e) (add f (fin s m e) (fin t n d)) ≡ true
+le-finite-sum : (f : Format) (s : Bool) (m : ℕ) (e : ℤ) (t : Bool) (n : ℕ) (d : ℤ) → (not s || eqb m 0) ≡ true → (not t || eqb n 0) ≡ true → T (fits f (fin s m e)) →
+    le (fin s m e) (add f (fin s m e) (fin t n d)) ≡ true
 le-finite-sum f true zero e t n d p q F = zero-least true e (add f (fin true 0 e) (fin t n d)) (nonneg-add f (fin true 0 e) (fin t n d) p q)
 le-finite-sum f true (suc m) e t n d p q F = absurd (omega (arith, eqb-true (suc m) 0 p))
 le-finite-sum f false m e t n d p q F = ap (le (fin false m e)) (finite-sum f false m e t n d p q) ∙ le-rounded f m e (n * up d * down e) d F

@@ -9,7 +9,8 @@ use native.Mathlib.Nat.{add-zero, zero-add, suc-add, mul-zero, mul-suc, mul-le-m
 use native.Mathlib.Numerals.{towards-suc}
 use native.Mathlib.Omega.{arith}
 use lib.ListN.{length, getD, set, take, drop, replicate, length-set, length-append, length-drop, length-replicate, drop-of-length-le}
-use lib.Seq.{take-nil, take-take, drop-drop, length-take-le, set-set, set-comm, take-set-le, drop-set-lt, getD-set-same, getD-set-other, getD-take, getD-drop, ext-getD, sets, drop-append-add, take-set-lt, drop-set-add, drop-append-le, take-append-le, take-length, take-at, drop-at}
+use lib.Seq.{take-nil, take-take, drop-drop, length-take-le, set-set, set-comm, take-set-le, drop-set-lt, getD-set-same, getD-set-other, getD-take, getD-drop, ext-getD, sets, drop-append-add}
+use lib.Seq.{take-set-lt, drop-set-add, drop-append-le, take-append-le, take-length, take-at, drop-at}
 use lib.Ieee.{Float, nan}
 use Rattle.field.specs.declared.Vec3.{Vec3}
 use Rattle.field.specs.Count.{field, upto}
@@ -404,7 +405,8 @@ module _ {A : Type 0} (K : Cell A) (W : Lawful K) where
   map-more l p n g w a e h = rw (e, h) (store-more l p n g)
 
   -- one more value copied
-  pub load-more : (l : List Float) (p : ℕ) (s : List Float) (q n : ℕ) (w : List Float) (a : A) → w ≡ store K l p (load K s q n) → a ≡ get K s (q + K .width * n) → put K w (p + K .width * n) a ≡ store K l p (load K s q (suc n))
+  pub load-more : (l : List Float) (p : ℕ) (s : List Float) (q n : ℕ) (w : List Float) (a : A) → w ≡ store K l p (load K s q n) → a ≡ get K s (q + K .width * n) →
+      put K w (p + K .width * n) a ≡ store K l p (load K s q (suc n))
   unfolding load
   load-more l p s q n w a e h = map-more l p n (λ i. get K s (q + K .width * i)) w a e h
 
@@ -421,10 +423,12 @@ module _ {A : Type 0} (K : Cell A) (W : Lawful K) where
       ap (λ (t : List Float). put K t (p + K .width * i) a) (sym (store-load l p n k)) ∙ put-store l p (load K l p n) i a (omega arith)
 
   -- a value changed where it stands: of a field that was stored, and of the field that stands there
-  pub change-store : (F : A → A) (l m : List Float) (p : ℕ) (x : List A) (i : ℕ) (d : A) → m ≡ store K l p x → i < length x → p + K .width * length x ≤ length l → put K m (p + K .width * i) (F (get K m (p + K .width * i))) ≡ store K l p (set x i (F (getD x i d)))
+  pub change-store : (F : A → A) (l m : List Float) (p : ℕ) (x : List A) (i : ℕ) (d : A) → m ≡ store K l p x → i < length x → p + K .width * length x ≤ length l →
+      put K m (p + K .width * i) (F (get K m (p + K .width * i))) ≡ store K l p (set x i (F (getD x i d)))
   change-store F l m p x i d e h k = rw (e, get-store l p x i d h k) (put-store l p x i (F (getD x i d)) h)
 
-  pub change-field : (F : A → A) (l : List Float) (p n i : ℕ) (d : A) → i < n → p + K .width * n ≤ length l → put K l (p + K .width * i) (F (get K l (p + K .width * i))) ≡ store K l p (set (load K l p n) i (F (getD (load K l p n) i d)))
+  pub change-field : (F : A → A) (l : List Float) (p n i : ℕ) (d : A) → i < n → p + K .width * n ≤ length l →
+      put K l (p + K .width * i) (F (get K l (p + K .width * i))) ≡ store K l p (set (load K l p n) i (F (getD (load K l p n) i d)))
   change-field F l p n i d h k = rw (at-load K l p n i d h) (put-field l p n i (F (get K l (p + K .width * i))) h k)
 
   pub load-put : (l : List Float) (p n i : ℕ) (a : A) → i < n → p + K .width * n ≤ length l → load K (put K l (p + K .width * i) a) p n ≡ set (load K l p n) i a
@@ -478,11 +482,13 @@ module _ {A B : Type 0} (J : Cell A) (K : Cell B) (W : Lawful K) where
   pub seen-before : (l w : List Float) (p : ℕ) (f : List B) (q n i : ℕ) (d : A) → w ≡ store K l p f → q + J .width * n ≤ p → i < n → get J w (q + J .width * i) ≡ getD (load J l q n) i d
   seen-before l w p f q n i d e h k = rw (e, at-load J l q n i d k) (get-store-apart l p f (q + J .width * i) (slot-apart p (K .width * length f) q n i k (inr h)))
 
-  pub seen-after : (l w : List Float) (p : ℕ) (f : List B) (q n i : ℕ) (d : A) → w ≡ store K l p f → p + K .width * length f ≤ q + J .width * i → i < n → get J w (q + J .width * i) ≡ getD (load J l q n) i d
+  pub seen-after : (l w : List Float) (p : ℕ) (f : List B) (q n i : ℕ) (d : A) → w ≡ store K l p f → p + K .width * length f ≤ q + J .width * i → i < n →
+      get J w (q + J .width * i) ≡ getD (load J l q n) i d
   seen-after l w p f q n i d e h k = rw (e, at-load J l q n i d k) (get-store-apart l p f (q + J .width * i) (inl h))
 
   -- the buffer m is l with the field x stored: what is computed of the fields that m holds, and stored over x, is computed of l's and x
-  pub through : (F : List A → List B → List B) (l m : List Float) (q k p n : ℕ) (x : List B) → m ≡ store K l p x → length x ≡ n → Apart p (K .width * n) q (J .width * k) → p + K .width * n ≤ length l → length (F (load J l q k) x) ≡ n →
+  pub through : (F : List A → List B → List B) (l m : List Float) (q k p n : ℕ) (x : List B) → m ≡ store K l p x → length x ≡ n → Apart p (K .width * n) q (J .width * k) →
+      p + K .width * n ≤ length l → length (F (load J l q k) x) ≡ n →
       store K m p (F (load J m q k) (load K m p n)) ≡ store K l p (F (load J l q k) x)
   through F l m q k p n x e h apart fits size =
       let a : load J (store K l p x) q k ≡ load J l q k = load-store-apart l p x q k (subst (λ (j : ℕ). Apart p (K .width * j) q (J .width * k)) (sym h) apart) in

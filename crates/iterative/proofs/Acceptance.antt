@@ -25,7 +25,8 @@ use Rattle.network.specs.inner.Sound.{NetworkSound}
 use Rattle.system.specs.System.{terms, anchor, weightsOf}
 use Rattle.operator.proofs.OperatorLaws.{by-finite}
 use Rattle.iterative.specs.Problem.{Problem, Faithful, Regular, mostRounds}
-use Rattle.iterative.specs.Method.{State, Run, Ending, running, ended, failed, accepted as taken, refused, acceptedUnless, component, badResidual, difference, differenceEntry, squareSum, allowed, rounds, residualOf, closed, solution}
+use Rattle.iterative.specs.Method.{State, Run, Ending, running, ended, failed, accepted as taken, refused, acceptedUnless, component, badResidual, difference, differenceEntry, squareSum}
+use Rattle.iterative.specs.Method.{allowed, rounds, residualOf, closed, solution}
 use Rattle.iterative.specs.Reduced.{problem, problemBy}
 use Rattle.system.proofs.Anchor.{anchor-below}
 use Rattle.iterative.specs.Accepted.{Accepted, ByMethod, Fits}
@@ -84,7 +85,8 @@ unfolding ofBits
 null-finite = refl
 
 -- where the anchor is at zero, every coordinate is finite
-pub coordinate-finite : (P : Problem) → Regular P → (x : List Vec3) → at x (P .anchor) ≡ origin → (k : Axis) → finite (on k (residualOf P x)) ≡ true → (i : ℕ) → i < P .cameras → finite (on k (at x i)) ≡ true
+pub coordinate-finite : (P : Problem) → Regular P → (x : List Vec3) → at x (P .anchor) ≡ origin → (k : Axis) → finite (on k (residualOf P x)) ≡ true → (i : ℕ) → i < P .cameras →
+    finite (on k (at x i)) ≡ true
 coordinate-finite P S x z k e i l = go (eqb i (P .anchor)) refl
   where
     go : (b : Bool) → eqb i (P .anchor) ≡ b → finite (on k (at x i)) ≡ true

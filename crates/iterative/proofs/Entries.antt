@@ -21,7 +21,8 @@ use Rattle.field.specs.declared.Vec3.{Vec3}
 use Rattle.system.specs.System.{noTerm, ridge, termAt}
 use Rattle.system.specs.Work.{term, termPlace}
 use Rattle.system.specs.declared.CameraTerm.{CameraTerm}
-use Rattle.iterative.specs.Method.{badDiagonal, difference, differenceEntry, preconditioned, preconditionedEntry, searchEntry, searchField, searchStep, stepped, steppedEntry, steppedField, zeros}
+use Rattle.iterative.specs.Method.{badDiagonal, difference, differenceEntry, preconditioned, preconditionedEntry, searchEntry, searchField, searchStep, stepped, steppedEntry, steppedField}
+use Rattle.iterative.specs.Method.{zeros}
 use Rattle.iterative.specs.Problem.{dotStep, fieldDot, times}
 use Rattle.iterative.specs.Reduced.{diagonalOf, rightEntry, rightOf}
 use Rattle.iterative.specs.declared.Active.{Active}
@@ -153,7 +154,8 @@ module _ (n a : ℕ) (l m w : List Float) (i : ℕ) (h : i < n) where
         fill-more _ l into i m w _ e (rw (seen-prior l m into _ n i e h from apart, diagonal-seen l m into _ n i e h (omega arith))) f
 
     -- and its dot with what it is made of
-    pub precondition-turn : (t u : Vec3) → into + 3 * n ≤ length l → FillDot z (load vector l from n) n a into l i m t → TurnPreconditioned n a from into i t m w u → FillDot z (load vector l from n) n a into l (i + 1) w u
+    pub precondition-turn : (t u : Vec3) → into + 3 * n ≤ length l → FillDot z (load vector l from n) n a into l i m t → TurnPreconditioned n a from into i t m w u →
+        FillDot z (load vector l from n) n a into l (i + 1) w u
     precondition-turn t u r F D =
         let e = precondition-more (F .filled) (D .put) in
         record { filled = e; dot = dot-with z l w into n a i t u e r h from apart (F .dot) (D .dot) }
@@ -182,7 +184,8 @@ module _ (n a : ℕ) (l m w : List Float) (i : ℕ) (h : i < n) where
     stepped-more e f = fill-more _ l into i m w _ e (rw (seen-own l m into _ n i e h, seen-later l m into _ n i e h along apart)) f
 
     -- and its dot with itself
-    pub stepped-turn : (t u : Vec3) → into + 3 * n ≤ length l → FillDot y (field n y) n a into l i m t → TurnStepped n a op active alpha into along i t m w u → FillDot y (field n y) n a into l (i + 1) w u
+    pub stepped-turn : (t u : Vec3) → into + 3 * n ≤ length l → FillDot y (field n y) n a into l i m t → TurnStepped n a op active alpha into along i t m w u →
+        FillDot y (field n y) n a into l (i + 1) w u
     stepped-turn t u r F D =
         let e = stepped-more (F .filled) (D .put) in
         record { filled = e; dot = dot-self y l w into n a i t u e r h (F .dot) (D .dot) }

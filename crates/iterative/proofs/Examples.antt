@@ -14,7 +14,8 @@ use Rattle.field.specs.Buffer.{get}
 use Rattle.network.specs.Lists.{none}
 use Rattle.system.specs.System.{effectiveIn, pullIn, weightSum, pullSum, meanOf, sumsFrom, one, sees, departs, arrives, assembleRow, assembleRows, greatest, anchorOf, addBearing, addDirection}
 use Rattle.iterative.specs.Problem.{times, dotStep, fieldDot, mostRounds}
-use Rattle.iterative.specs.Method.{State, accepted, refused, boundOf, allowedOf, startsActive, staysActive, badCurvature, badProduct, badResidual, quotient, stepped, searchStep, preconditionedEntry, steppedEntry, searchEntry, differenceEntry, squareSum, start, badDiagonal, moved, redirected, round, rounds, residualOf, solution}
+use Rattle.iterative.specs.Method.{State, accepted, refused, boundOf, allowedOf, startsActive, staysActive, badCurvature, badProduct, badResidual, quotient, stepped, searchStep}
+use Rattle.iterative.specs.Method.{preconditionedEntry, steppedEntry, searchEntry, differenceEntry, squareSum, start, badDiagonal, moved, redirected, round, rounds, residualOf, solution}
 use Rattle.operator.specs.Operator.{changed, times as repeated, ridgeEntry, bearingStep, spanPass, pointStep, directionStep, reducedBy}
 use Rattle.iterative.specs.Reduced.{diagonalOf, rightEntry, problem, problemBy}
 use Rattle.system.specs.Edges.{directed, half, pair, single}

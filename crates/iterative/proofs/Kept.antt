@@ -30,7 +30,8 @@ outside-same s l = record { terms = refl; rest = refl; size = refl }
 pub outside-then : {s : Shape} {l m w : List Float} → Outside s l m → Outside s m w → Outside s l w
 outside-then a b = record { terms = b .terms ∙ a .terms; rest = b .rest ∙ a .rest; size = b .size ∙ a .size }
 
-pub outside-store : (s : Shape) (l : List Float) (p : ℕ) (f : List Vec3) (w : List Float) → w ≡ store vector l p f → length f ≡ s .cameras → positionsAt s ≤ p → p + 3 * s .cameras ≤ weightsAt s → Outside s l w
+pub outside-store : (s : Shape) (l : List Float) (p : ℕ) (f : List Vec3) (w : List Float) → w ≡ store vector l p f → length f ≡ s .cameras → positionsAt s ≤ p → p + 3 * s .cameras ≤ weightsAt s →
+    Outside s l w
 outside-store s l p f w e z a b =
     subst (Outside s l) (sym e)
     (record {
@@ -70,7 +71,8 @@ other-field n l p f w q e s h =
 pub own-field : (n : ℕ) (l : List Float) (p : ℕ) (f : List Vec3) (w : List Float) → w ≡ store vector l p f → length f ≡ n → p + 3 * n ≤ length l → load vector w p n ≡ f
 own-field n l p f w e s h = ap (λ (t : List Float). load vector t p n) e ∙ load-store vector vector-lawful l p f n s h
 
-pub kept-store : (s : Shape) (l : List Float) (p : ℕ) (f : List Vec3) (w : List Float) → w ≡ store vector l p f → length f ≡ s .cameras → positionsAt s ≤ p → p + 3 * s .cameras ≤ weightsAt s → Apart p (3 * s .cameras) (rightAt s) (3 * s .cameras) → SystemKept s l w
+pub kept-store : (s : Shape) (l : List Float) (p : ℕ) (f : List Vec3) (w : List Float) → w ≡ store vector l p f → length f ≡ s .cameras → positionsAt s ≤ p → p + 3 * s .cameras ≤ weightsAt s →
+    Apart p (3 * s .cameras) (rightAt s) (3 * s .cameras) → SystemKept s l w
 kept-store s l p f w e z a b h = record { outside = outside-store s l p f w e z a b; right = other-field (s .cameras) l p f w (rightAt s) e z h }
 
 -- ---- the system

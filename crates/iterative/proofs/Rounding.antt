@@ -20,14 +20,16 @@ use Rattle.operator.proofs.OperatorLaws.{by-length}
 use Rattle.operator.specs.Operator.{reducedBy}
 use Rattle.operator.specs.inner.Applied.{reducedIn}
 use Rattle.iterative.proofs.Kept.{kept-same, kept-store, kept-then, other-field, own-field, problem-kept}
-use Rattle.iterative.specs.Method.{Run, State, any, badCurvature, badProduct, boundOf, component, continued, ended, failed, moved, preconditioned, quotient, redirect, redirected, round, running, searchField, squareSum, staysActive, step, steppedField}
+use Rattle.iterative.specs.Method.{Run, State, any, badCurvature, badProduct, boundOf, component, continued, ended, failed, moved, preconditioned, quotient, redirect, redirected, round, running}
+use Rattle.iterative.specs.Method.{searchField, squareSum, staysActive, step, steppedField}
 use Rattle.iterative.specs.Problem.{Problem, fieldDot}
 use Rattle.iterative.specs.Reduced.{diagonalOf}
 use Rattle.iterative.specs.declared.Active.{Active}
 use Rattle.iterative.specs.declared.Round.{Round}
 use Rattle.iterative.specs.declared.Step.{Step}
 use Rattle.iterative.specs.declared.Step.the-variants.{Ended, Failed, Running}
-use Rattle.iterative.specs.inner.Solver.{FieldStepped, FieldsFit, Moved, Preconditioned, Ran, Rounded, SystemKept, continuedBy, problemIn, problemWith, redirectedBy, rightSums, runIn, stateIn, steppedBy}
+use Rattle.iterative.specs.inner.Solver.{FieldStepped, FieldsFit, Moved, Preconditioned, Ran, Rounded, SystemKept, continuedBy, problemIn, problemWith, redirectedBy, rightSums, runIn, stateIn}
+use Rattle.iterative.specs.inner.Solver.{steppedBy}
 
 module _ (s : Shape) (a : ℕ) (l : List Float) (R : FieldsFit s (length l)) where
   abbrev n : ℕ
@@ -54,7 +56,8 @@ module _ (s : Shape) (a : ℕ) (l : List Float) (R : FieldsFit s (length l)) whe
     pub redirect-failed : (p : Place) (i : ℕ) → p ≡ component (badProduct (r .active) (r .old) new) → p ≡ At i → Ran s (redirectedBy s a l r) l l1 (Failed 12 i)
     redirect-failed p i e h = record { run = λ op. rw (← new-is, sym e ∙ h); kept = kept-z }
 
-    pub redirect-running : (p : Place) (beta : Vec3) (into : ℕ) (l2 : List Float) → p ≡ component (badProduct (r .active) (r .old) new) → p ≡ Nowhere → into ≡ searchAt s → beta ≡ quotient new (r .old) →
+    pub redirect-running : (p : Place) (beta : Vec3) (into : ℕ) (l2 : List Float) → p ≡ component (badProduct (r .active) (r .old) new) → p ≡ Nowhere → into ≡ searchAt s →
+        beta ≡ quotient new (r .old) →
         l2 ≡ store vector l1 into (searchField n (r .active) beta (load vector l1 at n) (load vector l1 into n)) →
         Ran s (redirectedBy s a l r) l l2 (Running (record { old = new; active = r .active; count = r .count }))
     unfolding redirected
@@ -65,8 +68,10 @@ module _ (s : Shape) (a : ℕ) (l : List Float) (R : FieldsFit s (length l)) whe
         let at-z : load vector l1 (preconditionedAt s) n ≡ z = own-field n l _ z l1 stored-z size-z (omega (arith, R .room)) in
         let e : load vector l2 (searchAt s) n ≡ q = own-field n l1 _ q l2 stored size-q (omega (arith, R .room, kept-z .outside .size)) in
         let f : load vector l1 (searchAt s) n ≡ load vector l (searchAt s) n = other-field n l _ z l1 (searchAt s) stored-z size-z (inl (omega arith)) in
-        let x : load vector l2 (positionsAt s) n ≡ load vector l (positionsAt s) n = other-field n l1 _ q l2 (positionsAt s) stored size-q (inr (omega arith)) ∙ other-field n l _ z l1 (positionsAt s) stored-z size-z (inr (omega arith)) in
-        let y : load vector l2 (residualAt s) n ≡ load vector l (residualAt s) n = other-field n l1 _ q l2 (residualAt s) stored size-q (inr (omega arith)) ∙ other-field n l _ z l1 (residualAt s) stored-z size-z (inr (omega arith)) in
+        let x : load vector l2 (positionsAt s) n ≡ load vector l (positionsAt s) n = other-field n l1 _ q l2 (positionsAt s) stored size-q (inr (omega arith))
+        ∙ other-field n l _ z l1 (positionsAt s) stored-z size-z (inr (omega arith)) in
+        let y : load vector l2 (residualAt s) n ≡ load vector l (residualAt s) n = other-field n l1 _ q l2 (residualAt s) stored size-q (inr (omega arith))
+        ∙ other-field n l _ z l1 (residualAt s) stored-z size-z (inr (omega arith)) in
         let w : component (badProduct (r .active) (r .old) new) ≡ Nowhere = sym e′ ∙ h in
         record {
           run = λ op. rw (← new-is, w, x, y, e, at-z, f, eb);
@@ -99,7 +104,8 @@ module _ (s : Shape) (a : ℕ) (l : List Float) (R : FieldsFit s (length l)) whe
       let size-y : length y ≡ n = length-field n _ in
       let kept-x : SystemKept s l l1 = kept-store s l _ x l1 e2 size-x (omega arith) (omega arith) (inl (omega arith)) in
       let P : load vector l2 (positionsAt s) n ≡ x = other-field n l1 _ y l2 (positionsAt s) e3 size-y (inr (omega arith)) ∙ own-field n l _ x l1 e2 size-x (omega (arith, R .room)) in
-      let Q : load vector l2 (searchAt s) n ≡ load vector l (searchAt s) n = other-field n l1 _ y l2 (searchAt s) e3 size-y (inl (omega arith)) ∙ other-field n l _ x l1 (searchAt s) e2 size-x (inl (omega arith)) in
+      let Q : load vector l2 (searchAt s) n ≡ load vector l (searchAt s) n = other-field n l1 _ y l2 (searchAt s) e3 size-y (inl (omega arith))
+      ∙ other-field n l _ x l1 (searchAt s) e2 size-x (inl (omega arith)) in
       let S : load vector l1 (residualAt s) n ≡ load vector l (residualAt s) n = other-field n l _ x l1 (residualAt s) e2 size-x (inl (omega arith)) in
       let T : load vector l1 (appliedAt s) n ≡ load vector l (appliedAt s) n = other-field n l _ x l1 (appliedAt s) e2 size-x (inl (omega arith)) in
       let U : load vector l2 (residualAt s) n ≡ y = own-field n l1 _ y l2 e3 size-y (omega (arith, R .room, kept-x .outside .size)) in

@@ -16,7 +16,8 @@ use Rattle.field.specs.Vec.{at, origin}
 use Rattle.field.specs.Count.{field, lowest}
 use Rattle.field.proofs.Counting.{length-field, getD-field, upto-suc, upto-invariant}
 use Rattle.iterative.specs.Problem.{Problem, Regular}
-use Rattle.iterative.specs.Method.{State, Run, running, ended, failed, component, any, badCurvature, badProduct, unless, inner, zeroEntry, steppedEntry, precondition, start, badDiagonal, opened, moved, redirected, continued, round, next, rounds}
+use Rattle.iterative.specs.Method.{State, Run, running, ended, failed, component, any, badCurvature, badProduct, unless, inner, zeroEntry, steppedEntry, precondition, start, badDiagonal, opened}
+use Rattle.iterative.specs.Method.{moved, redirected, continued, round, next, rounds}
 
 -- each field has n entries, and the anchor stays at zero
 pub record Shaped (P : Problem) (s : State) : Type 0 where

@@ -49,7 +49,8 @@ module _ (P : Problem) where
   count-round s =
       let curvature = inner P (s .search) (P .operator (s .search)) in
       let t = moved P s (P .operator (s .search)) curvature in
-      count-unless (component (badCurvature (s .round .active) (s .round .old) curvature)) 11 (continued P (any (t .round .active)) t) (s .round .count + 1) (count-continued (any (t .round .active)) t)
+      count-unless (component (badCurvature (s .round .active) (s .round .old) curvature)) 11 (continued P (any (t .round .active)) t) (s .round .count + 1)
+      (count-continued (any (t .round .active)) t)
 
   counted : (s t : State) → round P s ≡ running t → t .round .count ≡ s .round .count + 1
   unfolding countOf
@@ -132,7 +133,8 @@ module _ (s : Shape) (ends offsets listed : List ℕ) (a : ℕ) (l : List Float)
     pub rounds-done : (m : ℕ) (t : Round) → m ≡ mostRounds (s .cameras) → k < m → x ≡ Ended t → Iterated s P (running (stateIn s l first)) l l2 x
     rounds-done m t em h e = stopped m em h (Ended t) e refl
 
-  pub rounds-ended : (l1 : List Float) (r : Round) (k m : ℕ) → Rounds s ends offsets listed a l first k l1 r → m ≡ mostRounds (s .cameras) → k ≤ m → m ≤ k → Iterated s P (running (stateIn s l first)) l l1 (Running r)
+  pub rounds-ended : (l1 : List Float) (r : Round) (k m : ℕ) → Rounds s ends offsets listed a l first k l1 r → m ≡ mostRounds (s .cameras) → k ≤ m → m ≤ k →
+      Iterated s P (running (stateIn s l first)) l l1 (Running r)
   rounds-ended l1 r k m R e b c = let q : k ≡ mostRounds (s .cameras) = omega arith in record { run = sym (rw q at (R .run)); kept = R .kept }
 
   -- ---- with a first round, or none
@@ -140,7 +142,8 @@ module _ (s : Shape) (ends offsets listed : List ℕ) (a : ℕ) (l : List Float)
   pub bound-right : (sums bound : Vec3) → bound ≡ boundOf sums → sums ≡ rightSums s a l → bound ≡ boundOf (rightSums s a l)
   bound-right sums bound e f = rw (e, f)
 
-  pub iterated-begun : (b : Bool) (l1 : List Float) (x : Step) → b ≡ any (first .active) → b ≡ true → Iterated s P (running (stateIn s l first)) l l1 x → Iterated s P (begun (stateIn s l first)) l l1 x
+  pub iterated-begun : (b : Bool) (l1 : List Float) (x : Step) → b ≡ any (first .active) → b ≡ true → Iterated s P (running (stateIn s l first)) l l1 x →
+      Iterated s P (begun (stateIn s l first)) l l1 x
   iterated-begun b l1 x e h I = let q : any (first .active) ≡ true = sym e ∙ h in record { run = rw q (I .run); kept = I .kept }
 
   pub iterated-none : (b : Bool) → b ≡ any (first .active) → b ≡ false → Iterated s P (begun (stateIn s l first)) l l (Ended first)

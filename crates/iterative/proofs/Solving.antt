@@ -27,7 +27,8 @@ use Rattle.operator.specs.inner.Applied.{reducedIn}
 use Rattle.iterative.proofs.Entries.{diagonal-here}
 use Rattle.iterative.proofs.Kept.{kept-same, kept-store, kept-then, other-field, outside-same, outside-store, outside-then, own-field, placed-same, problem-in-kept}
 use Rattle.iterative.proofs.Running.{rounds-over}
-use Rattle.iterative.specs.Method.{Ending, Run, State, accepted, acceptedUnless, allowed, allowedOf, badDiagonal, badResidual, boundOf, closed, component, difference, ended, failed, next, opened, preconditioned, refused, residualOf, rounds, running, solution, squareSum, start, startsActive, tested, zeros}
+use Rattle.iterative.specs.Method.{Ending, Run, State, accepted, acceptedUnless, allowed, allowedOf, badDiagonal, badResidual, boundOf, closed, component, difference, ended, failed, next}
+use Rattle.iterative.specs.Method.{opened, preconditioned, refused, residualOf, rounds, running, solution, squareSum, start, startsActive, tested, zeros}
 use Rattle.iterative.specs.Problem.{Problem, fieldDot, mostRounds}
 use Rattle.iterative.specs.Reduced.{diagonalOf, problem, problemBy, rightOf}
 use Rattle.iterative.specs.declared.Active.{Active}
@@ -36,7 +37,8 @@ use Rattle.iterative.specs.declared.Outcome.the-variants.{Failed as NotP
 use Rattle.iterative.specs.declared.Round.{Round}
 use Rattle.iterative.specs.declared.Step.{Step}
 use Rattle.iterative.specs.declared.Step.the-variants.{Ended, Failed, Running}
-use Rattle.iterative.specs.inner.Solver.{Concluded, FieldsFit, Iterated, IterativeSolved, Opened, PositionsKept, Preconditioned, Settled, Started, SystemKept, Tested, answerOf, begun, diagonalIn, diagonalNumber, firstRound, positionsIn, problemIn, rightSums, roundsFrom, runIn, stateIn}
+use Rattle.iterative.specs.inner.Solver.{Concluded, FieldsFit, Iterated, IterativeSolved, Opened, PositionsKept, Preconditioned, Settled, Started, SystemKept, Tested, answerOf, begun}
+use Rattle.iterative.specs.inner.Solver.{diagonalIn, diagonalNumber, firstRound, positionsIn, problemIn, rightSums, roundsFrom, runIn, stateIn}
 
 -- ---- the start
 
@@ -63,7 +65,8 @@ opened-done s a l l1 l2 l3 l4 p1 p2 p3 p4 p5 v R q1 q2 q3 q4 q5 f1 f2 f3 D =
     let right : load vector l1 (rightAt s) n ≡ rightOf n a (load term l 0 n) = own-field n l (rightAt s) _ l1 e1 s1 (omega (arith, R .room)) in
     let positions : load vector l2 (positionsAt s) n ≡ zeros n = own-field n l1 (positionsAt s) _ l2 e2 s2 (omega (arith, R .room, o1 .size)) in
     let residual : load vector l3 (residualAt s) n ≡ rightOf n a (load term l2 0 n) = own-field n l2 (residualAt s) _ l3 e3 s3 (omega (arith, R .room, o2 .size)) in
-    let search : load vector l4 (searchAt s) n ≡ preconditioned n a (diagonalOf (load term l3 0 n)) (load vector l3 (residualAt s) n) = own-field n l3 (searchAt s) _ l4 e4 s4 (omega (arith, R .room, o3 .size)) in
+    let search : load vector l4 (searchAt s) n ≡ preconditioned n a (diagonalOf (load term l3 0 n)) (load vector l3 (residualAt s) n) =
+    own-field n l3 (searchAt s) _ l4 e4 s4 (omega (arith, R .room, o3 .size)) in
     record {
       outside = o4;
       right =
@@ -82,7 +85,8 @@ pub first-round-is : (s : Shape) (a : ℕ) (l : List Float) (p q : ℕ) (sums bo
     record { old = old; active = active; count = 0 } ≡ firstRound s a l sums
 first-round-is s a l p q sums bound old active ep eq eo eb ea = rw (ea, eb, eo, ep, eq)
 
-pub started : (s : Shape) (a : ℕ) (l l1 : List Float) (p : ℕ) (sums : Vec3) (r : Round) → Opened s a l l1 → p ≡ rightAt s → sums ≡ fieldDot (s .cameras) a (load vector l1 p (s .cameras)) (load vector l1 p (s .cameras)) → r ≡ firstRound s a l1 sums → Started s a l l1 sums r
+pub started : (s : Shape) (a : ℕ) (l l1 : List Float) (p : ℕ) (sums : Vec3) (r : Round) → Opened s a l l1 → p ≡ rightAt s →
+    sums ≡ fieldDot (s .cameras) a (load vector l1 p (s .cameras)) (load vector l1 p (s .cameras)) → r ≡ firstRound s a l1 sums → Started s a l l1 sums r
 started s a l l1 p sums r O ep es er = record { opened = O; sums = rw ep at es; round = er }
 
 -- ---- the end

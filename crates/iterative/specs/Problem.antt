@@ -43,7 +43,8 @@ mostRounds n = min (max (8 * (n - 1)) 64) 4000
 
 -- an entry of the operator's output, but for the anchor's, is finite only where that entry of its input is
 abbrev pub Faithful : Problem → Type 0
-Faithful P = (k : Axis) (x : List Vec3) (i : ℕ) → i < P .cameras → (i ≡ P .anchor → ⊥) → finite (on k (at (P .operator x) i)) ≡ true → finite (on k (at x i)) ≡ true
+Faithful P = (k : Axis) (x : List Vec3) (i : ℕ) → i < P .cameras → (i ≡ P .anchor → ⊥) → finite (on k (at (P .operator x) i)) ≡ true →
+    finite (on k (at x i)) ≡ true
 
 pub record Regular (P : Problem) : Type 0 where
   -- the anchor is one of the cameras

@@ -14,7 +14,8 @@ ghost use Rattle.field.specs.Vec.{null};
 ghost use Rattle.double.specs.Double.{greater, magnitude};
 ghost use Rattle.sqrt.specs.Root.{root};
 ghost use Rattle.system.specs.System.{tiny};
-ghost use Rattle.iterative.specs.Method.{relative, epsilon, squared, component, any as anyOf, boundOf, allowedOf, startsActive, staysActive, badCurvature, badProduct, badResidual, quotient as quotientOf, stepped as steppedOf, searchStep};
+ghost use Rattle.iterative.specs.Method.{relative, epsilon, squared, component, any as anyOf, boundOf, allowedOf, startsActive, staysActive};
+ghost use Rattle.iterative.specs.Method.{badCurvature, badProduct, badResidual, quotient as quotientOf, stepped as steppedOf, searchStep};
 ghost use Rattle.iterative.specs.inner.Solver.{signed, lowestFlag};
 
 pub(crate) fn any(a: Active) -> bool

@@ -27,7 +27,8 @@ ghost use Rattle.network.specs.Network.{links};
 ghost use Rattle.network.specs.inner.Sound.{LinksSound};
 ghost use Rattle.system.specs.Work.{matrixAt};
 ghost use Rattle.iterative.specs.Method.{ended};
-ghost use Rattle.iterative.specs.inner.Solver.{FieldsFit, Opened, Started, rightSums, firstRound, Settled, Tested, Concluded, stateIn, runIn, problemIn};
+ghost use Rattle.iterative.specs.inner.Solver.{FieldsFit, Opened, Started, rightSums, firstRound, Settled, Tested, Concluded, stateIn, runIn};
+ghost use Rattle.iterative.specs.inner.Solver.{problemIn};
 
 // What the method starts with: the square sums of the right side, and the first round's record.
 pub(crate) struct Opening {

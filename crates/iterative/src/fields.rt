@@ -26,7 +26,8 @@ ghost use Rattle.operator.specs.inner.Applied.{Ordered};
 ghost use Rattle.iterative.specs.Problem.{times as products, dotStep, fieldDot};
 ghost use Rattle.iterative.specs.Method.{zeros, stepped as steppedOf, searchStep, searchField, difference, badDiagonal};
 ghost use Rattle.iterative.specs.Reduced.{diagonalOf, rightOf};
-ghost use Rattle.iterative.specs.inner.Solver.{FieldAt, FieldStepped, FieldsFit, Preconditioned, TurnPreconditioned, TurnStepped, diagonalIn, signed};
+ghost use Rattle.iterative.specs.inner.Solver.{FieldAt, FieldStepped, FieldsFit, Preconditioned, TurnPreconditioned, TurnStepped, diagonalIn};
+ghost use Rattle.iterative.specs.inner.Solver.{signed};
 
 // ---- sums
 
@@ -110,7 +111,8 @@ pub(crate) fn find_bad_diagonal(s: Shape, work: &[f64], anchor: usize) -> Place
 
 fn put_right(work: &mut [f64], anchor: usize, into: usize, i: usize)
     requires { ⌜ (i < 4096) × (termPlace (i + 1) ≤ length (now work)) × (into + 3 * i + 3 ≤ length (now work)) ⌝ }
-    ensures { λ r. ⌜ now (work .exit) ≡ put vector (now (work .entry)) (into + 3 * i) (cond (eqb i anchor) origin (get term (now (work .entry)) (termPlace i) .right)) ⌝ }
+    ensures { λ r. ⌜ now (work .exit) ≡ put vector (now (work .entry)) (into + 3 * i)
+        (cond (eqb i anchor) origin (get term (now (work .entry)) (termPlace i) .right)) ⌝ }
 {
     let t = get_term(work, i);
     put3(work, into + 3 * i, anchored(i, anchor, zero(), t.right));
@@ -119,7 +121,8 @@ fn put_right(work: &mut [f64], anchor: usize, into: usize, i: usize)
 // The right side, and zero at the anchor.
 pub(crate) fn set_right(s: Shape, work: &mut [f64], anchor: usize, into: usize)
     requires { ⌜ FieldAt s into (length (now work)) ⌝ }
-    ensures { λ r. ⌜ now (work .exit) ≡ store vector (now (work .entry)) into (rightOf (s .cameras) anchor (load term (now (work .entry)) 0 (s .cameras))) ⌝ }
+    ensures { λ r. ⌜ now (work .exit) ≡ store vector (now (work .entry)) into
+        (rightOf (s .cameras) anchor (load term (now (work .entry)) 0 (s .cameras))) ⌝ }
 {
     let n = s.cameras;
     let mut i = 0usize;
@@ -142,7 +145,8 @@ pub(crate) fn set_zero(s: Shape, work: &mut [f64], into: usize)
 }
 
 fn put_preconditioned(work: &mut [f64], anchor: usize, from: usize, into: usize, i: usize)
-    requires { ⌜ (i < 4096) × (termPlace (i + 1) ≤ length (now work)) × (from + 3 * i + 3 ≤ length (now work)) × (into + 3 * i + 3 ≤ length (now work)) ⌝ }
+    requires { ⌜ (i < 4096) × (termPlace (i + 1) ≤ length (now work)) × (from + 3 * i + 3 ≤ length (now work)) ×
+        (into + 3 * i + 3 ≤ length (now work)) ⌝ }
     ensures { λ r. ⌜ now (work .exit) ≡ put vector (now (work .entry)) (into + 3 * i)
         (cond (eqb i anchor) origin (over (get vector (now (work .entry)) (from + 3 * i)) (diagonalIn (now (work .entry)) i))) ⌝ }
 {
@@ -160,7 +164,8 @@ fn precondition_at(
     i: usize,
     sum: Vec3,
 ) -> Vec3
-    requires { ⌜ (n ≤ 4096) × (i < n) × (termPlace n ≤ length (now work)) × (from + 3 * n ≤ length (now work)) × (into + 3 * n ≤ length (now work)) ⌝ }
+    requires { ⌜ (n ≤ 4096) × (i < n) × (termPlace n ≤ length (now work)) × (from + 3 * n ≤ length (now work)) ×
+        (into + 3 * n ≤ length (now work)) ⌝ }
     ensures { λ r. ⌜ TurnPreconditioned n anchor from into i sum (now (work .entry)) (now (work .exit)) r ⌝ }
 {
     put_preconditioned(work, anchor, from, into, i);
@@ -273,7 +278,8 @@ pub(crate) fn update_search(
 )
     requires { ⌜ Ordered s from into (length (now work)) ⌝ }
     ensures { λ r. ⌜ now (work .exit) ≡ store vector (now (work .entry)) into
-        (searchField (s .cameras) active beta (load vector (now (work .entry)) from (s .cameras)) (load vector (now (work .entry)) into (s .cameras))) ⌝ }
+        (searchField (s .cameras) active beta (load vector (now (work .entry)) from (s .cameras))
+        (load vector (now (work .entry)) into (s .cameras))) ⌝ }
 {
     let n = s.cameras;
     let mut i = 0usize;

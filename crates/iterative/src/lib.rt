@@ -88,7 +88,8 @@ fn run(
     conclude(s, ends, offsets, listed, work, anchor, sums, end)
 }
 
-// The system that stands in the work buffer solved by the written method: positions in their place, where it is accepted. The Rust's `solve_reduced_pcg`.
+// The system that stands in the work buffer solved by the written method: positions in their place, where it is accepted. The Rust's
+// `solve_reduced_pcg`.
 pub fn solve_iterative(
     s: Shape,
     ends: &[usize],

@@ -28,7 +28,8 @@ ghost use Rattle.network.specs.inner.Sound.{LinksSound};
 ghost use Rattle.system.specs.Work.{matrixAt};
 ghost use Rattle.iterative.specs.Problem.{mostRounds};
 ghost use Rattle.iterative.specs.Method.{boundOf, running};
-ghost use Rattle.iterative.specs.inner.Solver.{FieldsFit, Iterated, Moved, Ran, Rounded, begun, continuedBy, problemIn, redirectedBy, rightSums, stateIn, steppedBy};
+ghost use Rattle.iterative.specs.inner.Solver.{FieldsFit, Iterated, Moved, Ran, Rounded, begun, continuedBy, problemIn, redirectedBy};
+ghost use Rattle.iterative.specs.inner.Solver.{rightSums, stateIn, steppedBy};
 
 // The new search vector (12).
 fn redirect(s: Shape, work: &mut [f64], anchor: usize, r: Round) -> Step

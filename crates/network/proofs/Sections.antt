@@ -79,4 +79,5 @@ module _ (m n l : ℕ) (p q t : ℕ → Bool) (x : Place) (e : x ≡ running (se
   third y i h f k = sym (running-more (section m p ∷ section n q ∷ []) (section l t ∷ []) ∙ ap₂ (λ (y z : Place). orElse y (shift m (shift n z))) (sym e ∙ h) (sym (running-here l t [] f k)))
 
   pub none-of-three : (y : Place) → x ≡ Nowhere → y ≡ lowest t l → y ≡ Nowhere → Nowhere ≡ running (section m p ∷ section n q ∷ section l t ∷ [])
-  none-of-three y h f k = sym (running-more (section m p ∷ section n q ∷ []) (section l t ∷ []) ∙ ap₂ (λ (y z : Place). orElse y (shift m (shift n z))) (sym e ∙ h) (sym (running-later l t [] f k running-none)))
+  none-of-three y h f k = sym (running-more (section m p ∷ section n q ∷ []) (section l t ∷ [])
+      ∙ ap₂ (λ (y z : Place). orElse y (shift m (shift n z))) (sym e ∙ h) (sym (running-later l t [] f k running-none)))

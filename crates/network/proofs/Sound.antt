@@ -21,7 +21,9 @@ use Rattle.network.specs.declared.Verdict.{Verdict}
 use Rattle.network.specs.declared.Verdict.the-variants.{Passed}
 use Rattle.network.specs.Network.{Graph, Network, linksOf, links, rows, firstEnd, secondEnd}
 use Rattle.network.specs.Lists.{listsHold}
-use Rattle.network.specs.Refusals.{verdict, test, testAt, Section, running, badWeight, badScale, badVector, badRow, badCameras, badCounts, countTests, endsFit, raysFit, vectorsFit, listsFit, contentFits, networkFits, lengthTests, strays, loops, endTests, listTests, weightTests, rowSections, domainTests, badRoute, routeTests, denseRows, graphRowTests, networkRowTests}
+use Rattle.network.specs.Refusals.{verdict, test, testAt, Section, running, badWeight, badScale, badVector, badRow, badCameras, badCounts, countTests, endsFit, raysFit, vectorsFit, listsFit}
+use Rattle.network.specs.Refusals.{contentFits, networkFits, lengthTests, strays, loops, endTests, listTests, weightTests, rowSections, domainTests, badRoute, routeTests, denseRows}
+use Rattle.network.specs.Refusals.{graphRowTests, networkRowTests}
 use Rattle.network.specs.inner.Sound.{ShapeSound, DomainLengths, ContentLengths, NetworkLengths, EndsSound, OffsetsSound, ListedSound, LinksSound, GraphSound, NetworkSound}
 use Rattle.network.proofs.Verdicts.{first-passed, stage-passed, verdict-one, test-passed, test-at-passed}
 use Rattle.network.proofs.Sections.{running-passed}
@@ -72,7 +74,8 @@ lists-fit : (m b : ℕ) (offsets listed : List ℕ) → listsFit m b offsets lis
 unfolding listsFit
 lists-fit m b offsets listed e = let h = both-true _ _ e in (eqb-true _ _ (h .0), eqb-true _ _ (h .1))
 
-pub content-fits : (s : Shape) (ends : List ℕ) (rays weights scales positions : List Float) → contentFits s ends rays weights scales positions ≡ true → ContentLengths s ends rays weights scales positions
+pub content-fits : (s : Shape) (ends : List ℕ) (rays weights scales positions : List Float) → contentFits s ends rays weights scales positions ≡ true →
+    ContentLengths s ends rays weights scales positions
 unfolding contentFits
 content-fits s ends rays weights scales positions e =
     let h = both-true (endsFit (rows s) ends weights) _ e in
@@ -115,7 +118,8 @@ ends-sound s ends t f e =
 
 -- ---- 6
 
-pub links-sound : (s : Shape) (ends offsets listed : List ℕ) → EndsSound s ends → length offsets ≡ s .points + 1 → length listed ≡ s .bearings → verdict (listTests s ends offsets listed) ≡ Passed → LinksSound (links s ends offsets listed)
+pub links-sound : (s : Shape) (ends offsets listed : List ℕ) → EndsSound s ends → length offsets ≡ s .points + 1 → length listed ≡ s .bearings → verdict (listTests s ends offsets listed) ≡ Passed →
+    LinksSound (links s ends offsets listed)
 unfolding listTests
 links-sound s ends offsets listed E o l e =
     let t = lists-parts (s .points) (s .bearings) ends offsets listed o (not-false _ (test-passed 6 _ (only _ e))) in
@@ -177,7 +181,8 @@ graph-sound g s f e =
     let l = ends-fit _ _ _ f in
     record { ends = ends-sound _ _ s (l .0) (h .0); weights = l .1; weight = weights-sound _ _ (h .1) }
 
-pub network-sound : (net : Network) (cameras : List Section) → ShapeSound (net .shape) → networkFits net ≡ true → verdict (networkRowTests net cameras) ≡ Passed → NetworkSound net × (running cameras ≡ Nowhere)
+pub network-sound : (net : Network) (cameras : List Section) → ShapeSound (net .shape) → networkFits net ≡ true → verdict (networkRowTests net cameras) ≡ Passed →
+    NetworkSound net × (running cameras ≡ Nowhere)
 unfolding networkRowTests
 network-sound net cameras s f e =
     let n = network-fits net f in

@@ -14,7 +14,8 @@ ghost use lib.ListN.{length};
 ghost use mathlib.Core.List.{[], _∷_, _++_};
 ghost use Rattle.field.specs.Count.{lowest};
 ghost use Rattle.network.specs.Network.{rows};
-ghost use Rattle.network.specs.Refusals.{verdict, section, running, badWeight, badScale, badVector, badRow, rowSections, weightTests, domainTests};
+ghost use Rattle.network.specs.Refusals.{verdict, section, running, badWeight, badScale, badVector, badRow, rowSections, weightTests};
+ghost use Rattle.network.specs.Refusals.{domainTests};
 ghost use Rattle.network.specs.inner.Sound.{ShapeSound, DomainLengths};
 
 // The weight of row r is not finite, or below zero.
@@ -164,7 +165,8 @@ pub fn check_domain(
 ) -> Verdict
     requires { ⌜ ShapeSound s ⌝ }
     requires { ⌜ DomainLengths s (now rays) (now weights) (now scales) (now points) ⌝ }
-    ensures { λ r. ⌜ r ≡ verdict (domainTests (rowSections s (now (rays .entry)) (now (weights .entry)) (now (scales .entry)) (now (points .entry)))) ⌝ }
+    ensures { λ r. ⌜ r ≡ verdict (domainTests (rowSections s (now (rays .entry)) (now (weights .entry)) (now (scales .entry))
+        (now (points .entry)))) ⌝ }
 {
     refused_at(7, find_outside(s, rays, weights, scales, points))
 }

@@ -22,7 +22,8 @@ use Rattle.operator.specs.Operator.{reducedBy}
 use Rattle.operator.specs.inner.Applied.{Seen}
 
 -- where weights w stand in the buffer, what is applied is their operator
-pub reduced-held : (L : Links) (w : Weights) (t : List CameraTerm) (l : List Float) → LinksSound L → Segments (L .shape) w t l → (a : ℕ) (x : List Vec3) → reducedBy L (weightsIn (L .shape) l) a x ≡ reducedBy L w a x
+pub reduced-held : (L : Links) (w : Weights) (t : List CameraTerm) (l : List Float) → LinksSound L → Segments (L .shape) w t l → (a : ℕ) (x : List Vec3) →
+    reducedBy L (weightsIn (L .shape) l) a x ≡ reducedBy L w a x
 reduced-held L w t l S G a x =
     reduced-same L S a (weightsIn (L .shape) l) w
     (λ r h. held-at l _ _ r (w .row) (G .rows) h) (λ p h. held-at l _ _ p (w .point) (G .points) h) x

@@ -28,10 +28,12 @@ Place = plain (λ κs. T.the-row (namedLft 4 0 tt κs))
 
 -- the body has given the borrow up for good, and has what says its last list
 abbrev pub gave : Stay Place yes
-gave = stay-declared (structAt name (named 0 ∷ []) slots) yes (stay-struct-at name (named 0 ∷ []) slots yes gives) ReducedOperator (λ κs. T.the-type (namedLft 4 0 tt κs) .to) (λ κs. T.the-type (namedLft 4 0 tt κs) .to-one)
+gave = stay-declared (structAt name (named 0 ∷ []) slots) yes (stay-struct-at name (named 0 ∷ []) slots yes gives) ReducedOperator (λ κs. T.the-type (namedLft 4 0 tt κs) .to)
+    (λ κs. T.the-type (namedLft 4 0 tt κs) .to-one)
 
 module _ {M : Type 1} (𝓤 : URA M) (H : Heap 𝓤) (A : Atoms 𝓤) (W : Given 𝓤 H A) where
   pub gave-goes : Goes 𝓤 H A W 4 Place yes gave
   gave-goes =
-      goes-declared 𝓤 H A W 4 (structAt name (named 0 ∷ []) slots) yes (stay-struct-at name (named 0 ∷ []) slots yes gives) ReducedOperator (λ κs. T.the-type (namedLft 4 0 tt κs) .to) (λ κs. T.the-type (namedLft 4 0 tt κs) .to-one)
+      goes-declared 𝓤 H A W 4 (structAt name (named 0 ∷ []) slots) yes (stay-struct-at name (named 0 ∷ []) slots yes gives) ReducedOperator (λ κs. T.the-type (namedLft 4 0 tt κs) .to)
+      (λ κs. T.the-type (namedLft 4 0 tt κs) .to-one)
       (goes-struct-at 𝓤 H A W 4 name (named 0 ∷ []) slots yes gives (goes-gave-slice 𝓤 H A W 4 0 tt (plain (λ _. f64)), tt))

@@ -63,7 +63,8 @@ module _ (L : Links) (w : Weights) (a : ℕ) (x : List Vec3) (R : List Vec3 → 
       let s = L .shape in
       let z = ridged (s .cameras) a x in
       let y = times (pointStep L a) (s .points) w x z in
-      K .chain _ y z (steps w a x R K (directionStep (s .bearings) (L .ends) a) (direction-step w a x R K (s .bearings) (L .ends)) (s .directions) y) (steps w a x R K (pointStep L a) point-step (s .points) z)
+      K .chain _ y z (steps w a x R K (directionStep (s .bearings) (L .ends) a) (direction-step w a x R K (s .bearings) (L .ends)) (s .directions) y)
+      (steps w a x R K (pointStep L a) point-step (s .points) z)
 
 -- ---- the length, and the anchor's entry
 
@@ -174,16 +175,19 @@ ridged-finite n a x k i l d e =
     let h = getD-field n (ridgeEntry a x) i origin l in
     firm-scale k (at x i) ridge (sym (ap finite (ap (on k) (h ∙ rw (ne-eqb i a d)))) ∙ e)
 
-pub by-finite : (L : Links) (w : Weights) (a : ℕ) (x : List Vec3) (k : Axis) (i : ℕ) → i < L .shape .cameras → (i ≡ a → ⊥) → finite (on k (at (reducedBy L w a x) i)) ≡ true → finite (on k (at x i)) ≡ true
+pub by-finite : (L : Links) (w : Weights) (a : ℕ) (x : List Vec3) (k : Axis) (i : ℕ) → i < L .shape .cameras → (i ≡ a → ⊥) → finite (on k (at (reducedBy L w a x) i)) ≡ true →
+    finite (on k (at x i)) ≡ true
 by-finite L w a x k i l d e = ridged-finite (L .shape .cameras) a x k i l d (reduced-keeps L w a x _ (finite-kept k i a) e)
 
 -- ---- two weights that agree at the rows and points in range
 
-module _ (L : Links) (S : LinksSound L) (a : ℕ) (v w : Weights) (row : (r : ℕ) → r < rows (L .shape) → v .row r ≡ w .row r) (point : (p : ℕ) → p < L .shape .points → v .point p ≡ w .point p) (x : List Vec3) where
+module _ (L : Links) (S : LinksSound L) (a : ℕ) (v w : Weights) (row : (r : ℕ) → r < rows (L .shape) → v .row r ≡ w .row r) (point : (p : ℕ) → p < L .shape .points →
+    v .point p ≡ w .point p) (x : List Vec3) where
   listed-same : (p : ℕ) → p < L .shape .points → (i : ℕ) → i < spanOf (L .offsets) p .size → let r = rowAt (L .listed) (spanOf (L .offsets) p) i in v .row r ≡ w .row r
   listed-same p h i k = row _ (omega (arith, S .listed .bearing (getD (L .offsets) p 0 + i) (omega (arith, S .offsets .within (p + 1) (omega arith)))))
 
-  span-same : (p : ℕ) → p < L .shape .points → (t : Float) (y : List Vec3) → spanPass (L .ends) (L .listed) a (spanOf (L .offsets) p) t v x y ≡ spanPass (L .ends) (L .listed) a (spanOf (L .offsets) p) t w x y
+  span-same : (p : ℕ) → p < L .shape .points → (t : Float) (y : List Vec3) →
+      spanPass (L .ends) (L .listed) a (spanOf (L .offsets) p) t v x y ≡ spanPass (L .ends) (L .listed) a (spanOf (L .offsets) p) t w x y
   unfolding spanPass times bearingStep
   span-same p h t y =
       let k = spanOf (L .offsets) p in

@@ -84,7 +84,8 @@ module _ (s : Shape) (from into : ℕ) (l : List Float) (O : FieldsIn s from int
   unfolding applied times
   none f = rw upto-zero (sym (store-load vector vector-lawful l into (s .cameras) fits))
 
-  pub more : (f : ℕ → Change) → ((i : ℕ) → Sized (s .cameras) (f i)) → (i : ℕ) (m w : List Float) → m ≡ applied s from into (times f i) l → w ≡ applied s from into (f i) m → w ≡ applied s from into (times f (i + 1)) l
+  pub more : (f : ℕ → Change) → ((i : ℕ) → Sized (s .cameras) (f i)) → (i : ℕ) (m w : List Float) → m ≡ applied s from into (times f i) l → w ≡ applied s from into (f i) m →
+      w ≡ applied s from into (times f (i + 1)) l
   more f h i m w e g = rw (add-one, times-suc) (both (times f i) (f i) m w (sized-times (s .cameras) f h i) (h i) e g)
 
 -- ---- the rows
@@ -151,7 +152,8 @@ module _ (s : Shape) (ends listed : List ℕ) (from : ℕ) (l : List Float) (k :
   pub sum-none : (t : Vec3) → t ≡ origin → t ≡ sumOf 0
   sum-none t e = e ∙ sym (upto-zero _ origin)
 
-  pub sum-more : (i r : ℕ) (t t' v : Vec3) → r ≡ rowAt listed k i → v ≡ scale (at (load vector l from (s .cameras)) (firstEnd ends r)) (weightsIn s l .row r) → t ≡ sumOf i → t' ≡ plus t v → t' ≡ sumOf (i + 1)
+  pub sum-more : (i r : ℕ) (t t' v : Vec3) → r ≡ rowAt listed k i → v ≡ scale (at (load vector l from (s .cameras)) (firstEnd ends r)) (weightsIn s l .row r) → t ≡ sumOf i → t' ≡ plus t v →
+      t' ≡ sumOf (i + 1)
   sum-more i r t t' v er ev et g = rw (add-one, upto-suc, ← et, ← er, ← ev) g
 
   pub sum-ended : (i : ℕ) (t : Vec3) → t ≡ sumOf i → k .size ≤ i → i ≤ k .size → t ≡ sumOf (k .size)
@@ -178,7 +180,8 @@ module _ (s : Shape) (ends offsets listed : List ℕ) (from into a p : ℕ) (l :
   unfolding applied pointStep
   point-skipped O b = rw (← et, b) (sym (store-load vector vector-lawful l into _ (fits s from into l O)))
 
-  pub point-met : (q : Span) (w : List Float) → q ≡ spanOf offsets p → lt t tiny ≡ false → w ≡ applied s from into (spanPass ends listed a q t) l → w ≡ applied s from into (pointStep (links s ends offsets listed) a p) l
+  pub point-met : (q : Span) (w : List Float) → q ≡ spanOf offsets p → lt t tiny ≡ false → w ≡ applied s from into (spanPass ends listed a q t) l →
+      w ≡ applied s from into (pointStep (links s ends offsets listed) a p) l
   unfolding applied pointStep
   point-met q w e b g = rw (← et, b, ← e) g
 
@@ -188,13 +191,15 @@ pub ended : (s : Shape) (from into : ℕ) (l w : List Float) (f : ℕ → Change
 ended s from into l w f k n e a b = let q : k ≡ n = omega arith in rw q at e
 
 module _ (s : Shape) (from into : ℕ) (l : List Float) (O : FieldsIn s from into (length l)) (i : ℕ) (m w : List Float) where
-  pub list-more : (ends listed : List ℕ) (k : Span) (a : ℕ) (u : Vec3) (r : ℕ) → r ≡ rowAt listed k i → m ≡ applied s from into (times (listStep ends listed k a u) i) l → w ≡ applied s from into (bearingStep ends a u r) m → w ≡ applied s from into (times (listStep ends listed k a u) (i + 1)) l
+  pub list-more : (ends listed : List ℕ) (k : Span) (a : ℕ) (u : Vec3) (r : ℕ) → r ≡ rowAt listed k i → m ≡ applied s from into (times (listStep ends listed k a u) i) l →
+      w ≡ applied s from into (bearingStep ends a u r) m → w ≡ applied s from into (times (listStep ends listed k a u) (i + 1)) l
   list-more ends listed k a u r h e g = more s from into l O _ (λ j. sized-bearing (s .cameras) a ends u _) i m w e (rw h at g)
 
   pub points-more : (L : Links) (a : ℕ) → m ≡ applied s from into (times (pointStep L a) i) l → w ≡ applied s from into (pointStep L a i) m → w ≡ applied s from into (times (pointStep L a) (i + 1)) l
   points-more L a e g = more s from into l O _ (sized-point L (s .cameras) a) i m w e g
 
-  pub directions-more : (ends : List ℕ) (a : ℕ) → m ≡ applied s from into (times (directionStep (s .bearings) ends a) i) l → w ≡ applied s from into (directionStep (s .bearings) ends a i) m → w ≡ applied s from into (times (directionStep (s .bearings) ends a) (i + 1)) l
+  pub directions-more : (ends : List ℕ) (a : ℕ) → m ≡ applied s from into (times (directionStep (s .bearings) ends a) i) l → w ≡ applied s from into (directionStep (s .bearings) ends a i) m →
+      w ≡ applied s from into (times (directionStep (s .bearings) ends a) (i + 1)) l
   directions-more ends a e g = more s from into l O _ (sized-direction (s .cameras) a (s .bearings) ends) i m w e g
 
 -- ---- the three passes one after another
@@ -213,4 +218,5 @@ reduced-done L a from into l l1 l2 l3 O e1 e2 e3 =
     let P = times (pointStep L a) (s .points) in
     let hR : Sized n R = record { sized = λ w x y e. length-ridged n a x } in
     let hP : Sized n P = sized-times n _ (sized-point L n a) (s .points) in
-    both s from into l O (after P R) (times (directionStep (s .bearings) (L .ends) a) (s .directions)) l2 l3 (record { sized = λ w x y e. hP .sized w x (R w x y) (hR .sized w x y e) }) (sized-times n _ (sized-direction n a (s .bearings) (L .ends)) (s .directions)) (both s from into l O R P l1 l2 hR hP e1 e2) e3
+    both s from into l O (after P R) (times (directionStep (s .bearings) (L .ends) a) (s .directions)) l2 l3 (record { sized = λ w x y e. hP .sized w x (R w x y) (hR .sized w x y e) })
+    (sized-times n _ (sized-direction n a (s .bearings) (L .ends)) (s .directions)) (both s from into l O R P l1 l2 hR hP e1 e2) e3

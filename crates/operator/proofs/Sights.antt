@@ -61,7 +61,8 @@ module _ (s : Shape) (ends listed : List ℕ) (l : List Float) (from k : ℕ) wh
   unfolding upto times
   none = record { sum = refl; steps = λ a u y. refl }
 
-  more : (i : ℕ) (t : Sight) {v : Vec3} {F : ℕ → Vec3 → List Vec3 → List Vec3} → Seen s ends l from (getD listed (k + i) 0) t → Walked i v F → Walked (suc i) (added t v) (λ a u y. pushed a u t (F a u y))
+  more : (i : ℕ) (t : Sight) {v : Vec3} {F : ℕ → Vec3 → List Vec3 → List Vec3} → Seen s ends l from (getD listed (k + i) 0) t → Walked i v F →
+      Walked (suc i) (added t v) (λ a u y. pushed a u t (F a u y))
   unfolding bearingStep times
   more i t q W =
       let e : t .at ≡ getD (load vector l from (s .cameras)) (firstEnd ends (getD listed (k + i) 0)) origin = q .at ∙ sym (at-load vector l from _ _ origin (omega (arith, q .camera, q .below))) in
@@ -90,6 +91,8 @@ module _ (s : Shape) (ends listed : List ℕ) (l : List Float) (from k : ℕ) wh
           m ≡ applied s from into (spanPass ends listed a (record { first = k; size = 3 }) t) l
       three-done f = done 3 a into m t (more 2 s2 q2 (more 1 s1 q1 (more 0 s0 first none))) f
 
-      pub four-done : (s3 : Sight) → Seen s ends l from (getD listed (k + 3) 0) s3 → (let u = over (added s3 (added s2 (added s1 (added s0 origin)))) t in m ≡ store vector l into (pushed a u s3 (pushed a u s2 (pushed a u s1 (pushed a u s0 (load vector l into (s .cameras))))))) →
+      pub four-done : (s3 : Sight) → Seen s ends l from (getD listed (k + 3) 0) s3 →
+          (let u = over (added s3 (added s2 (added s1 (added s0 origin)))) t in
+          m ≡ store vector l into (pushed a u s3 (pushed a u s2 (pushed a u s1 (pushed a u s0 (load vector l into (s .cameras))))))) →
           m ≡ applied s from into (spanPass ends listed a (record { first = k; size = 4 }) t) l
       four-done s3 q3 f = done 4 a into m t (more 3 s3 q3 (more 2 s2 q2 (more 1 s1 q1 (more 0 s0 first none)))) f

@@ -26,7 +26,8 @@ impl<'a> ReducedOperator<'a> {
         into: usize,
     )
         requires { ⌜ LinksSound (links s (now ends) (now offsets) (now listed)) × FieldsIn s from into (length (now (self .work))) ⌝ }
-        ensures { λ _. ⌜ now (self .exit .0) ≡ reducedIn (links s (now (ends .entry)) (now (offsets .entry)) (now (listed .entry))) anchor from into (now (self .entry .work)) ⌝ }
+        ensures { λ _. ⌜ now (self .exit .0) ≡ reducedIn
+            (links s (now (ends .entry)) (now (offsets .entry)) (now (listed .entry))) anchor from into (now (self .entry .work)) ⌝ }
     {
         apply_core(self.work, s, ends, offsets, listed, anchor, from, into)
     }
@@ -44,7 +45,8 @@ pub fn apply(
     into: usize,
 )
     requires { ⌜ LinksSound (links s (now ends) (now offsets) (now listed)) × FieldsIn s from into (length (now work)) ⌝ }
-    ensures { λ _. ⌜ now (work .exit) ≡ reducedIn (links s (now (ends .entry)) (now (offsets .entry)) (now (listed .entry))) anchor from into (now (work .entry)) ⌝ }
+    ensures { λ _. ⌜ now (work .exit) ≡ reducedIn (links s (now (ends .entry)) (now (offsets .entry)) (now (listed .entry))) anchor from into
+        (now (work .entry)) ⌝ }
 {
     ReducedOperator { work: work }.apply(s, ends, offsets, listed, anchor, from, into)
 }

@@ -35,7 +35,8 @@ ghost use Rattle.operator.specs.inner.Applied.{PlacesIn, Ordered, Fields
 // Camera i × 1e-6, and zero at the anchor.
 fn ridge_at(work: &mut [f64], anchor: usize, from: usize, into: usize, i: usize)
     requires { ⌜ (i < 4096) × (from + 3 * i + 3 ≤ length (now work)) × (into + 3 * i + 3 ≤ length (now work)) ⌝ }
-    ensures { λ r. ⌜ now (work .exit) ≡ put vector (now (work .entry)) (into + 3 * i) (ridgeAt anchor i (get vector (now (work .entry)) (from + 3 * i))) ⌝ }
+    ensures { λ r. ⌜ now (work .exit) ≡ put vector (now (work .entry)) (into + 3 * i)
+        (ridgeAt anchor i (get vector (now (work .entry)) (from + 3 * i))) ⌝ }
 {
     let v = anchored(i, anchor, zero(), get3(work, from + 3 * i).mul(1e-6));
     put3(work, into + 3 * i, v);
@@ -44,7 +45,8 @@ fn ridge_at(work: &mut [f64], anchor: usize, from: usize, into: usize, i: usize)
 // The cameras × 1e-6, and zero at the anchor.
 fn ridge_pass(s: Shape, work: &mut [f64], anchor: usize, from: usize, into: usize)
     requires { ⌜ Ordered s from into (length (now work)) ⌝ }
-    ensures { λ r. ⌜ now (work .exit) ≡ store vector (now (work .entry)) into (ridged (s .cameras) anchor (load vector (now (work .entry)) from (s .cameras))) ⌝ }
+    ensures { λ r. ⌜ now (work .exit) ≡ store vector (now (work .entry)) into
+        (ridged (s .cameras) anchor (load vector (now (work .entry)) from (s .cameras))) ⌝ }
 {
     let n = s.cameras;
     let mut i = 0usize;
@@ -101,7 +103,8 @@ fn bearing_step(
 fn weighted(s: Shape, ends: &[usize], work: &[f64], from: usize, r: usize) -> Vec3
     requires { ⌜ EndsSound s (now ends) ⌝ }
     requires { ⌜ (r < s .bearings) × (from + 3 * s .cameras ≤ weightsAt s) × (matrixAt s ≤ length (now work)) ⌝ }
-    ensures { λ v. ⌜ v ≡ scale (at (load vector (now (work .entry)) from (s .cameras)) (firstEnd (now (ends .entry)) r)) (weightsIn s (now (work .entry)) .row r) ⌝ }
+    ensures { λ v. ⌜ v ≡ scale (at (load vector (now (work .entry)) from (s .cameras)) (firstEnd (now (ends .entry)) r))
+        (weightsIn s (now (work .entry)) .row r) ⌝ }
 {
     let c = camera_of(s, ends, r);
     get3(work, from + 3 * c).mul(row_weight(s, work, r))
@@ -143,7 +146,8 @@ fn point_gain(
     requires { ⌜ ListedSound (s .bearings) (now listed) ⌝ }
     requires { ⌜ FieldsIn s from into (length (now work)) ⌝ }
     requires { ⌜ k .first + k .size ≤ s .bearings ⌝ }
-    ensures { λ x. ⌜ now (work .exit) ≡ applied s from into (times (listStep (now (ends .entry)) (now (listed .entry)) k anchor u) (k .size)) (now (work .entry)) ⌝ }
+    ensures { λ x. ⌜ now (work .exit) ≡ applied s from into (times (listStep (now (ends .entry)) (now (listed .entry)) k anchor u) (k .size))
+        (now (work .entry)) ⌝ }
 {
     let first = k.first;
     let size = k.size;
@@ -220,7 +224,8 @@ fn point_step(
     requires { ⌜ LinksSound (links s (now ends) (now offsets) (now listed)) ⌝ }
     requires { ⌜ FieldsIn s from into (length (now work)) ⌝ }
     requires { ⌜ p < s .points ⌝ }
-    ensures { λ x. ⌜ now (work .exit) ≡ applied s from into (pointStep (links s (now (ends .entry)) (now (offsets .entry)) (now (listed .entry))) anchor p) (now (work .entry)) ⌝ }
+    ensures { λ x. ⌜ now (work .exit) ≡ applied s from into
+        (pointStep (links s (now (ends .entry)) (now (offsets .entry)) (now (listed .entry))) anchor p) (now (work .entry)) ⌝ }
 {
     let w = point_weight(s, work, p);
     if w < 1e-12 {
@@ -251,7 +256,8 @@ fn points_pass(
 )
     requires { ⌜ LinksSound (links s (now ends) (now offsets) (now listed)) ⌝ }
     requires { ⌜ FieldsIn s from into (length (now work)) ⌝ }
-    ensures { λ x. ⌜ now (work .exit) ≡ applied s from into (times (pointStep (links s (now (ends .entry)) (now (offsets .entry)) (now (listed .entry))) anchor) (s .points)) (now (work .entry)) ⌝ }
+    ensures { λ x. ⌜ now (work .exit) ≡ applied s from into
+        (times (pointStep (links s (now (ends .entry)) (now (offsets .entry)) (now (listed .entry))) anchor) (s .points)) (now (work .entry)) ⌝ }
 {
     let m = s.points;
     let mut p = 0usize;
@@ -306,7 +312,8 @@ fn directions_pass(
 )
     requires { ⌜ EndsSound s (now ends) ⌝ }
     requires { ⌜ FieldsIn s from into (length (now work)) ⌝ }
-    ensures { λ x. ⌜ now (work .exit) ≡ applied s from into (times (directionStep (s .bearings) (now (ends .entry)) anchor) (s .directions)) (now (work .entry)) ⌝ }
+    ensures { λ x. ⌜ now (work .exit) ≡ applied s from into (times (directionStep (s .bearings) (now (ends .entry)) anchor) (s .directions))
+        (now (work .entry)) ⌝ }
 {
     let e = s.directions;
     let mut d = 0usize;
@@ -328,7 +335,8 @@ pub(crate) fn apply_core(
     into: usize,
 )
     requires { ⌜ LinksSound (links s (now ends) (now offsets) (now listed)) × FieldsIn s from into (length (now work)) ⌝ }
-    ensures { λ x. ⌜ now (work .exit) ≡ reducedIn (links s (now (ends .entry)) (now (offsets .entry)) (now (listed .entry))) anchor from into (now (work .entry)) ⌝ }
+    ensures { λ x. ⌜ now (work .exit) ≡ reducedIn (links s (now (ends .entry)) (now (offsets .entry)) (now (listed .entry))) anchor from into
+        (now (work .entry)) ⌝ }
 {
     ridge_pass(s, work, anchor, from, into);
     points_pass(s, ends, offsets, listed, work, anchor, from, into);

@@ -66,7 +66,8 @@ fn two_sum(s0: Sight, s1: Sight) -> Vec3
 // The camera of a sight gains (camera - u) × weight.
 fn push(work: &mut [f64], n: usize, anchor: usize, into: usize, s: Sight, u: Vec3)
     requires { ⌜ (n ≤ 4096) × (s .camera < n) × (into + 3 * n ≤ length (now work)) ⌝ }
-    ensures { λ r. ⌜ now (work .exit) ≡ store vector (now (work .entry)) into (gains anchor (s .camera) (scale (minus (s .at) u) (s .weight)) (load vector (now (work .entry)) into n)) ⌝ }
+    ensures { λ r. ⌜ now (work .exit) ≡ store vector (now (work .entry)) into
+        (gains anchor (s .camera) (scale (minus (s .at) u) (s .weight)) (load vector (now (work .entry)) into n)) ⌝ }
 {
     gain(work, n, anchor, into, s.camera, s.pull(u));
 }
@@ -75,7 +76,9 @@ fn push(work: &mut [f64], n: usize, anchor: usize, into: usize, s: Sight, u: Vec
 fn two_gain(work: &mut [f64], n: usize, anchor: usize, into: usize, s0: Sight, s1: Sight, u: Vec3)
     requires { ⌜ (n ≤ 4096) × (into + 3 * n ≤ length (now work)) ⌝ }
     requires { ⌜ (s0 .camera < n) × (s1 .camera < n) ⌝ }
-    ensures { λ r. ⌜ now (work .exit) ≡ store vector (now (work .entry)) into (gains anchor (s1 .camera) (scale (minus (s1 .at) u) (s1 .weight)) (gains anchor (s0 .camera) (scale (minus (s0 .at) u) (s0 .weight)) (load vector (now (work .entry)) into n))) ⌝ }
+    ensures { λ r. ⌜ now (work .exit) ≡ store vector (now (work .entry)) into
+        (gains anchor (s1 .camera) (scale (minus (s1 .at) u) (s1 .weight))
+        (gains anchor (s0 .camera) (scale (minus (s0 .at) u) (s0 .weight)) (load vector (now (work .entry)) into n))) ⌝ }
 {
     push(work, n, anchor, into, s0, u);
     push(work, n, anchor, into, s1, u);
@@ -85,7 +88,10 @@ fn two_gain(work: &mut [f64], n: usize, anchor: usize, into: usize, s0: Sight, s
 fn two_step(work: &mut [f64], n: usize, anchor: usize, into: usize, s0: Sight, s1: Sight, w: f64)
     requires { ⌜ (n ≤ 4096) × (into + 3 * n ≤ length (now work)) ⌝ }
     requires { ⌜ (s0 .camera < n) × (s1 .camera < n) ⌝ }
-    ensures { λ r. ⌜ (let u = over (plus (plus origin (scale (s0 .at) (s0 .weight))) (scale (s1 .at) (s1 .weight))) w in now (work .exit) ≡ store vector (now (work .entry)) into (gains anchor (s1 .camera) (scale (minus (s1 .at) u) (s1 .weight)) (gains anchor (s0 .camera) (scale (minus (s0 .at) u) (s0 .weight)) (load vector (now (work .entry)) into n)))) ⌝ }
+    ensures { λ r. ⌜ (let u = over (plus (plus origin (scale (s0 .at) (s0 .weight))) (scale (s1 .at) (s1 .weight))) w in
+        now (work .exit) ≡ store vector (now (work .entry)) into
+        (gains anchor (s1 .camera) (scale (minus (s1 .at) u) (s1 .weight))
+        (gains anchor (s0 .camera) (scale (minus (s0 .at) u) (s0 .weight)) (load vector (now (work .entry)) into n)))) ⌝ }
 {
     let u = two_sum(s0, s1).div(w);
     two_gain(work, n, anchor, into, s0, s1, u);
@@ -104,7 +110,11 @@ fn three_step(
 )
     requires { ⌜ (n ≤ 4096) × (into + 3 * n ≤ length (now work)) ⌝ }
     requires { ⌜ (s0 .camera < n) × (s1 .camera < n) × (s2 .camera < n) ⌝ }
-    ensures { λ r. ⌜ (let u = over (plus (plus (plus origin (scale (s0 .at) (s0 .weight))) (scale (s1 .at) (s1 .weight))) (scale (s2 .at) (s2 .weight))) w in now (work .exit) ≡ store vector (now (work .entry)) into (gains anchor (s2 .camera) (scale (minus (s2 .at) u) (s2 .weight)) (gains anchor (s1 .camera) (scale (minus (s1 .at) u) (s1 .weight)) (gains anchor (s0 .camera) (scale (minus (s0 .at) u) (s0 .weight)) (load vector (now (work .entry)) into n))))) ⌝ }
+    ensures { λ r. ⌜ (let u = over (plus (plus (plus origin (scale (s0 .at) (s0 .weight))) (scale (s1 .at) (s1 .weight)))
+        (scale (s2 .at) (s2 .weight))) w in now (work .exit) ≡ store vector (now (work .entry)) into
+        (gains anchor (s2 .camera) (scale (minus (s2 .at) u) (s2 .weight))
+        (gains anchor (s1 .camera) (scale (minus (s1 .at) u) (s1 .weight))
+        (gains anchor (s0 .camera) (scale (minus (s0 .at) u) (s0 .weight)) (load vector (now (work .entry)) into n))))) ⌝ }
 {
     let u = s2.added(two_sum(s0, s1)).div(w);
     two_gain(work, n, anchor, into, s0, s1, u);
@@ -125,7 +135,13 @@ fn four_step(
 )
     requires { ⌜ (n ≤ 4096) × (into + 3 * n ≤ length (now work)) ⌝ }
     requires { ⌜ (s0 .camera < n) × (s1 .camera < n) × (s2 .camera < n) × (s3 .camera < n) ⌝ }
-    ensures { λ r. ⌜ (let u = over (plus (plus (plus (plus origin (scale (s0 .at) (s0 .weight))) (scale (s1 .at) (s1 .weight))) (scale (s2 .at) (s2 .weight))) (scale (s3 .at) (s3 .weight))) w in now (work .exit) ≡ store vector (now (work .entry)) into (gains anchor (s3 .camera) (scale (minus (s3 .at) u) (s3 .weight)) (gains anchor (s2 .camera) (scale (minus (s2 .at) u) (s2 .weight)) (gains anchor (s1 .camera) (scale (minus (s1 .at) u) (s1 .weight)) (gains anchor (s0 .camera) (scale (minus (s0 .at) u) (s0 .weight)) (load vector (now (work .entry)) into n)))))) ⌝ }
+    ensures { λ r. ⌜ (let u = over (plus (plus (plus (plus origin (scale (s0 .at) (s0 .weight))) (scale (s1 .at) (s1 .weight)))
+        (scale (s2 .at) (s2 .weight))) (scale (s3 .at) (s3 .weight))) w in
+        now (work .exit) ≡ store vector (now (work .entry)) into
+        (gains anchor (s3 .camera) (scale (minus (s3 .at) u) (s3 .weight))
+        (gains anchor (s2 .camera) (scale (minus (s2 .at) u) (s2 .weight))
+        (gains anchor (s1 .camera) (scale (minus (s1 .at) u) (s1 .weight))
+        (gains anchor (s0 .camera) (scale (minus (s0 .at) u) (s0 .weight)) (load vector (now (work .entry)) into n)))))) ⌝ }
 {
     let u = s3.added(s2.added(two_sum(s0, s1))).div(w);
     two_gain(work, n, anchor, into, s0, s1, u);
@@ -147,7 +163,8 @@ pub(crate) fn two_rows(
     requires { ⌜ ListedSound (s .bearings) (now listed) ⌝ }
     requires { ⌜ FieldsIn s from into (length (now work)) ⌝ }
     requires { ⌜ k + 2 ≤ s .bearings ⌝ }
-    ensures { λ x. ⌜ now (work .exit) ≡ applied s from into (spanPass (now (ends .entry)) (now (listed .entry)) anchor (record { first = k; size = 2 }) t) (now (work .entry)) ⌝ }
+    ensures { λ x. ⌜ now (work .exit) ≡ applied s from into
+        (spanPass (now (ends .entry)) (now (listed .entry)) anchor (record { first = k; size = 2 }) t) (now (work .entry)) ⌝ }
 {
     let s0 = seen(s, ends, listed, work, from, k);
     let s1 = seen(s, ends, listed, work, from, k + 1);
@@ -169,7 +186,8 @@ pub(crate) fn three_rows(
     requires { ⌜ ListedSound (s .bearings) (now listed) ⌝ }
     requires { ⌜ FieldsIn s from into (length (now work)) ⌝ }
     requires { ⌜ k + 3 ≤ s .bearings ⌝ }
-    ensures { λ x. ⌜ now (work .exit) ≡ applied s from into (spanPass (now (ends .entry)) (now (listed .entry)) anchor (record { first = k; size = 3 }) t) (now (work .entry)) ⌝ }
+    ensures { λ x. ⌜ now (work .exit) ≡ applied s from into
+        (spanPass (now (ends .entry)) (now (listed .entry)) anchor (record { first = k; size = 3 }) t) (now (work .entry)) ⌝ }
 {
     let s0 = seen(s, ends, listed, work, from, k);
     let s1 = seen(s, ends, listed, work, from, k + 1);
@@ -192,7 +210,8 @@ pub(crate) fn four_rows(
     requires { ⌜ ListedSound (s .bearings) (now listed) ⌝ }
     requires { ⌜ FieldsIn s from into (length (now work)) ⌝ }
     requires { ⌜ k + 4 ≤ s .bearings ⌝ }
-    ensures { λ x. ⌜ now (work .exit) ≡ applied s from into (spanPass (now (ends .entry)) (now (listed .entry)) anchor (record { first = k; size = 4 }) t) (now (work .entry)) ⌝ }
+    ensures { λ x. ⌜ now (work .exit) ≡ applied s from into
+        (spanPass (now (ends .entry)) (now (listed .entry)) anchor (record { first = k; size = 4 }) t) (now (work .entry)) ⌝ }
 {
     let s0 = seen(s, ends, listed, work, from, k);
     let s1 = seen(s, ends, listed, work, from, k + 1);

@@ -39,7 +39,8 @@ use Rattle.dense.proofs.Solving.{dense-held}
 use Rattle.placement.specs.declared.Answer.{Answer}
 use Rattle.placement.specs.declared.Answer.the-variants.{Refused, Accepted}
 use Rattle.placement.specs.declared.Report.{Report}
-use Rattle.placement.specs.Routes.{Submission, Placement, rejected, failing, placed, report, failingAt, submission, byDense, denseOr, byIterative, afterRefusal, routedBy, routed, buffersFit, submissionTests, submissionVerdict, checked, placement}
+use Rattle.placement.specs.Routes.{Submission, Placement, rejected, failing, placed, report, failingAt, submission, byDense, denseOr, byIterative, afterRefusal, routedBy, routed, buffersFit}
+use Rattle.placement.specs.Routes.{submissionTests, submissionVerdict, checked, placement}
 use Rattle.placement.specs.Solved.{answerOf, camerasAfter, pointsAfter, workAfter, Solved}
 use Rattle.placement.specs.inner.Routing.{Checked, Placed, Ran, RouteReady, Routed, denseIn, iterativeIn, outcome}
 use Rattle.placement.proofs.Routing.{surplus-more, work-room}
@@ -196,9 +197,11 @@ zeroed-routed : (net : Network) (route limit : ℕ) → Zeroed (routed net route
 unfolding routed routedBy
 zeroed-routed net route limit = go (eqb route 1)
   where
-    go : (b : Bool) → Zeroed (cond b (denseOr (leb (net .shape .cameras - 1) limit) (anchor net) 1 (denseSolution net) (failingAt 14 (net .shape .cameras - 1))) (byIterative (anchor net) (solution (problem net)) (afterRefusal (anchor net) (net .shape .cameras - 1) route limit (denseSolution net))))
+    go : (b : Bool) → Zeroed (cond b (denseOr (leb (net .shape .cameras - 1) limit) (anchor net) 1 (denseSolution net) (failingAt 14 (net .shape .cameras - 1)))
+        (byIterative (anchor net) (solution (problem net)) (afterRefusal (anchor net) (net .shape .cameras - 1) route limit (denseSolution net))))
     go true = zeroed-dense (anchor net) 1 (denseSolution net) (leb (net .shape .cameras - 1) limit) 14 (net .shape .cameras - 1)
-    go false = zeroed-iterative (anchor net) (solution (problem net)) (afterRefusal (anchor net) (net .shape .cameras - 1) route limit (denseSolution net)) (λ k i. zeroed-after (anchor net) (net .shape .cameras - 1) limit (denseSolution net) k i (eqb route 2))
+    go false = zeroed-iterative (anchor net) (solution (problem net)) (afterRefusal (anchor net) (net .shape .cameras - 1) route limit (denseSolution net))
+        (λ k i. zeroed-after (anchor net) (net .shape .cameras - 1) limit (denseSolution net) k i (eqb route 2))
 
 -- ---- demand 3
 
@@ -254,9 +257,11 @@ module _ (net : Network) (N : NetworkSound net) where
   unfolding routed routedBy
   meant-routed route limit = go (eqb route 1)
     where
-      go : (b : Bool) → Meant (cond b (denseOr (leb d limit) (anchor net) 1 (denseSolution net) (failingAt 14 d)) (byIterative (anchor net) (solution (problem net)) (afterRefusal (anchor net) d route limit (denseSolution net))))
+      go : (b : Bool) → Meant (cond b (denseOr (leb d limit) (anchor net) 1 (denseSolution net) (failingAt 14 d))
+          (byIterative (anchor net) (solution (problem net)) (afterRefusal (anchor net) d route limit (denseSolution net))))
       go true = meant-other (denseOr (leb d limit) (anchor net) 1 (denseSolution net) (failingAt 14 d)) (other-dense (anchor net) 1 (denseSolution net) (leb d limit) 14 d (λ e. omega arith))
-      go false = meant-iterative (solution (problem net)) refl (afterRefusal (anchor net) d route limit (denseSolution net)) (λ k i. other-after (anchor net) d limit (denseSolution net) k i (eqb route 2))
+      go false = meant-iterative (solution (problem net)) refl (afterRefusal (anchor net) d route limit (denseSolution net))
+          (λ k i. other-after (anchor net) d limit (denseSolution net) k i (eqb route 2))
 
 -- ---- the solve
 

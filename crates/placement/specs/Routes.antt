@@ -18,7 +18,8 @@ use Rattle.cholesky.specs.Cholesky.{Result, done, stopped}
 use Rattle.dense.specs.Dense.{denseSolution}
 use Rattle.placement.specs.declared.Report.{Report}
 
--- What is submitted: the network, the route and the dense limit. Of the lent buffers there are only their lengths, so what they held makes no difference.
+-- What is submitted: the network, the route and the dense limit. Of the lent buffers there are only their lengths, so what they held makes no
+-- difference.
 pub record Submission : Type 0 where
   pub net : Network
   pub route : ℕ

@@ -14,7 +14,8 @@ use Rattle.field.specs.declared.Vec3.{Vec3}
 use Rattle.field.specs.Count.{field}
 use Rattle.field.specs.Buffer.{Cell, part, get, flat, load, store, number, vector}
 use Rattle.field.proofs.Counting.{length-field, getD-field, upto-ext}
-use Rattle.field.proofs.Buffers.{Apart, Lawful, getD-part, at-load, part-apart, part-same, flat-number, length-flat, length-store, load-store, load-store-apart, drop-store, store-number, number-lawful, vector-lawful}
+use Rattle.field.proofs.Buffers.{Apart, Lawful, getD-part, at-load, part-apart, part-same, flat-number, length-flat, length-store, load-store, load-store-apart, drop-store, store-number}
+use Rattle.field.proofs.Buffers.{number-lawful, vector-lawful}
 use Rattle.network.specs.declared.Shape.{Shape}
 use Rattle.network.specs.Network.{rows, secondEnd, isBearing, links}
 use Rattle.network.specs.inner.Sound.{EndsSound, LinksSound}
@@ -45,7 +46,8 @@ module _ {A : Type 0} (K : Cell A) (W : Lawful K) (l : List Float) (p : ℕ) (f 
   part-store q n h = part-apart l p (flat K f) q n (rw (length-flat K W f) h)
 
   -- a store in the fields between terms and point weights, or past the effective weights
-  pub segments-store : (s : Shape) (w : Weights) (t : List CameraTerm) → Segments s w t l → termPlace (s .cameras) ≤ p → (p + K .width * length f ≤ weightsAt s) ⊎ (matrixAt s ≤ p) → Segments s w t (store K l p f)
+  pub segments-store : (s : Shape) (w : Weights) (t : List CameraTerm) → Segments s w t l → termPlace (s .cameras) ≤ p → (p + K .width * length f ≤ weightsAt s) ⊎ (matrixAt s ≤ p) →
+      Segments s w t (store K l p f)
   segments-store s w t h k j = record {
     terms = load-store-apart term K W l p f 0 (s .cameras) (inr (omega arith)) ∙ h .terms;
     points = part-store (weightsAt s) (s .points) (⊎-elim (λ b. inl b) (λ b. inr (omega arith)) j) ∙ h .points;
@@ -118,8 +120,10 @@ module _ (s : Shape) (ends : List ℕ) (rays weights scales : List Float) (offse
       ap (λ (t : List Float). part t (effectiveAt s) q) e2 ∙ part-store vector vector-lawful w (meansAt s) (field m (S .mean)) (effectiveAt s) q (inl (omega arith))
       ∙ part-store number number-lawful l1 (weightsAt s) (field m (S .weights .point)) (effectiveAt s) q (inl (omega arith)) ∙ row1 in
       let point2 : part l2 (weightsAt s) m ≡ field m (S .weights .point) =
-      ap (λ (t : List Float). part t (weightsAt s) m) e2 ∙ part-store vector vector-lawful w (meansAt s) (field m (S .mean)) (weightsAt s) m (inr (omega arith)) ∙ numbers-stored l1 (weightsAt s) m _ (omega arith) in
-      let mean2 : load vector l2 (meansAt s) m ≡ field m (S .mean) = ap (λ (t : List Float). load vector t (meansAt s) m) e2 ∙ load-store vector vector-lawful w (meansAt s) (field m (S .mean)) m zc (omega arith) in
+      ap (λ (t : List Float). part t (weightsAt s) m) e2 ∙ part-store vector vector-lawful w (meansAt s) (field m (S .mean)) (weightsAt s) m (inr (omega arith))
+      ∙ numbers-stored l1 (weightsAt s) m _ (omega arith) in
+      let mean2 : load vector l2 (meansAt s) m ≡ field m (S .mean) = ap (λ (t : List Float). load vector t (meansAt s) m) e2
+      ∙ load-store vector vector-lawful w (meansAt s) (field m (S .mean)) m zc (omega arith) in
       let agree : Agree s (sumsIn s (pullIn rays weights scales) l2) S = record {
         row = λ r h. held-at l2 (effectiveAt s) q r _ row2 h;
         point = λ p h. held-at l2 (weightsAt s) m p _ point2 h;

@@ -60,7 +60,8 @@ sums-kept s o l w e =
 -- ---- one row
 
 -- a term changed where it stands, of terms x that were stored
-change-term : (F : CameraTerm → CameraTerm) (l m : List Float) (x : List CameraTerm) (c : ℕ) → m ≡ store term l 0 x → c < length x → termPlace (length x) ≤ length l → put term m (termPlace c) (F (get term m (termPlace c))) ≡ store term l 0 (set x c (F (termAt x c)))
+change-term : (F : CameraTerm → CameraTerm) (l m : List Float) (x : List CameraTerm) (c : ℕ) → m ≡ store term l 0 x → c < length x → termPlace (length x) ≤ length l →
+    put term m (termPlace c) (F (get term m (termPlace c))) ≡ store term l 0 (set x c (F (termAt x c)))
 change-term F l m x c e h k = rw (← zero-add (5 * c)) (change-store term term-lawful F l m 0 x c noTerm e h (rw zero-add k))
 
 module _ (s : Shape) (ends : List ℕ) (v : Vec3) (l : List Float) (E : EndsSound s ends) (room : matrixAt s ≤ length l) (r : ℕ) where
@@ -113,7 +114,8 @@ module _ (s : Shape) (ends : List ℕ) (v : Vec3) (l : List Float) (E : EndsSoun
 -- ---- row after row
 
 -- a row uses its own pull alone
-own-pull : (s : Shape) (ends : List ℕ) (r : ℕ) (o : ℕ → Vec3) (v : Vec3) (l : List Float) (x : List CameraTerm) → v ≡ o r → assembleRow s ends r (sumsIn s (always v) l) x ≡ assembleRow s ends r (sumsIn s o l) x
+own-pull : (s : Shape) (ends : List ℕ) (r : ℕ) (o : ℕ → Vec3) (v : Vec3) (l : List Float) (x : List CameraTerm) → v ≡ o r →
+    assembleRow s ends r (sumsIn s (always v) l) x ≡ assembleRow s ends r (sumsIn s o l) x
 unfolding assembleRow addBearing addDirection
 own-pull s ends r o v l x e = rw e
 
@@ -126,7 +128,8 @@ module _ (s : Shape) (ends : List ℕ) (o : ℕ → Vec3) (l : List Float) (room
   unfolding added assembleRows
   rows-none = rw upto-zero (sym (store-load term term-lawful l 0 (s .cameras) (omega arith)))
 
-  pub rows-more : (r : ℕ) (v : Vec3) (m w : List Float) → v ≡ o r → m ≡ added s o (assembleRows s ends r) l → w ≡ added s (always v) (assembleRow s ends r) m → w ≡ added s o (assembleRows s ends (r + 1)) l
+  pub rows-more : (r : ℕ) (v : Vec3) (m w : List Float) → v ≡ o r → m ≡ added s o (assembleRows s ends r) l → w ≡ added s (always v) (assembleRow s ends r) m →
+      w ≡ added s o (assembleRows s ends (r + 1)) l
   unfolding added
   rows-more r v m w h e f =
       let n = s .cameras in
@@ -142,7 +145,8 @@ module _ (s : Shape) (ends : List ℕ) (o : ℕ → Vec3) (l : List Float) (room
   rows-ended r n m e a b = let q : r ≡ n = omega arith in rw q at e
 
   -- the terms were cleared before
-  pub assembled : (k : ℕ) (m w : List Float) → k ≡ termPlace (s .cameras) → m ≡ replicate k null ++ drop k l → w ≡ added s o (assembleRows s ends (rows s)) m → w ≡ store term l 0 (termsBy s ends (sumsIn s o l))
+  pub assembled : (k : ℕ) (m w : List Float) → k ≡ termPlace (s .cameras) → m ≡ replicate k null ++ drop k l → w ≡ added s o (assembleRows s ends (rows s)) m →
+      w ≡ store term l 0 (termsBy s ends (sumsIn s o l))
   unfolding added
   assembled k m w h e f =
       let n = s .cameras in

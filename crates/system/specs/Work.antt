@@ -1,4 +1,5 @@
--- The work buffer (document 01: 'T = 23n + 4m + B + E + d² + 3d doubles'): its segments lie one after another, each from where the one before it ends.
+-- The work buffer (document 01: 'T = 23n + 4m + B + E + d² + 3d doubles'): its segments lie one after another, each from where the one before it
+-- ends.
 use Prim.Native.Nat.{ℕ, _+_, _*_}
 use mathlib.Core.List.{List, [], _∷_}
 use lib.Ieee.{nan}

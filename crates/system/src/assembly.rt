@@ -27,7 +27,8 @@ ghost use Rattle.system.specs.inner.Formed.{RowsThere, always, sumsIn, a
 // A bearing added to the term of camera c.
 fn see(work: &mut [f64], c: usize, e: f64, w: f64, mean: Vec3, offset: Vec3)
     requires { ⌜ (c ≤ 4096) × (termPlace (c + 1) ≤ length (now work)) ⌝ }
-    ensures { λ x. ⌜ now (work .exit) ≡ put term (now (work .entry)) (termPlace c) (sees e w mean offset (get term (now (work .entry)) (termPlace c))) ⌝ }
+    ensures { λ x. ⌜ now (work .exit) ≡ put term (now (work .entry)) (termPlace c)
+        (sees e w mean offset (get term (now (work .entry)) (termPlace c))) ⌝ }
 {
     let t = get_term(work, c).sees(e, w, mean, offset);
     put_term(work, c, t);
@@ -103,7 +104,8 @@ fn assemble_rows(
     requires { ⌜ EndsSound s (now ends) ⌝ }
     requires { ⌜ RowsThere s (now rays) (now weights) (now scales) ⌝ }
     requires { ⌜ matrixAt s ≤ length (now work) ⌝ }
-    ensures { λ x. ⌜ now (work .exit) ≡ added s (pullIn (now (rays .entry)) (now (weights .entry)) (now (scales .entry))) (assembleRows s (now (ends .entry)) (rows s)) (now (work .entry)) ⌝ }
+    ensures { λ x. ⌜ now (work .exit) ≡ added s (pullIn (now (rays .entry)) (now (weights .entry)) (now (scales .entry)))
+        (assembleRows s (now (ends .entry)) (rows s)) (now (work .entry)) ⌝ }
 {
     let count = s.bearings + s.directions;
     let mut r = 0usize;
@@ -126,7 +128,8 @@ pub(crate) fn assemble(
     requires { ⌜ EndsSound s (now ends) ⌝ }
     requires { ⌜ RowsThere s (now rays) (now weights) (now scales) ⌝ }
     requires { ⌜ matrixAt s ≤ length (now work) ⌝ }
-    ensures { λ x. ⌜ now (work .exit) ≡ store term (now (work .entry)) 0 (termsBy s (now (ends .entry)) (sumsIn s (pullIn (now (rays .entry)) (now (weights .entry)) (now (scales .entry))) (now (work .entry)))) ⌝ }
+    ensures { λ x. ⌜ now (work .exit) ≡ store term (now (work .entry)) 0
+        (termsBy s (now (ends .entry)) (sumsIn s (pullIn (now (rays .entry)) (now (weights .entry)) (now (scales .entry))) (now (work .entry)))) ⌝ }
 {
     clear(work, term_at(s.cameras));
     assemble_rows(s, ends, rays, weights, scales, work);

@@ -26,7 +26,8 @@ ghost use Rattle.system.specs.inner.Formed.{RowsThere, pointStored, summ
 pub(crate) fn fill_effective(s: Shape, weights: &[f64], scales: &[f64], work: &mut [f64])
     requires { ⌜ ShapeSound s ⌝ }
     requires { ⌜ (rows s ≤ length (now weights)) × (rows s ≤ length (now scales)) × (matrixAt s ≤ length (now work)) ⌝ }
-    ensures { λ r. ⌜ now (work .exit) ≡ store number (now (work .entry)) (effectiveAt s) (field (rows s) (effectiveIn (now (weights .entry)) (now (scales .entry)))) ⌝ }
+    ensures { λ r. ⌜ now (work .exit) ≡ store number (now (work .entry)) (effectiveAt s)
+        (field (rows s) (effectiveIn (now (weights .entry)) (now (scales .entry)))) ⌝ }
 {
     let into = effective_at(s);
     let count = s.bearings + s.directions;
@@ -120,7 +121,8 @@ fn sum_point(
     requires { ⌜ ListedSound (s .bearings) (now listed) ⌝ }
     requires { ⌜ RowsThere s (now rays) (now weights) (now scales) ⌝ }
     requires { ⌜ p < s .points ⌝ }
-    ensures { λ r. ⌜ (let S = sumsFrom (now (rays .entry)) (now (weights .entry)) (now (scales .entry)) (now (offsets .entry)) (now (listed .entry)) in
+    ensures { λ r. ⌜ (let S = sumsFrom (now (rays .entry)) (now (weights .entry)) (now (scales .entry)) (now (offsets .entry))
+        (now (listed .entry)) in
         r ≡ record { weight = S .weights .point p; mean = S .mean p }) ⌝ }
 {
     let k = span_of(s, offsets, p);

@@ -19,7 +19,9 @@ use Rattle.system.specs.Work.{appliedAt, positionsAt, residualAt, rightAt, sear
 use Rattle.system.specs.System.{ridge}
 use Rattle.system.specs.inner.Formed.{weightsIn}
 use Rattle.operator.specs.Operator.{reducedBy}
-use Rattle.iterative.specs.Method.{Ending, Run, State, accepted, allowed, any, badResidual, boundOf, closed, component, continued, ended, failed, flag, moved, next, preconditioned, redirect, refused, residualOf, round, running, solution, startsActive, step, stepped, steppedField, zeros}
+use Rattle.iterative.specs.Method.{Ending, Run, State, accepted, allowed, any, badResidual, boundOf, closed, component, continued, ended}
+use Rattle.iterative.specs.Method.{failed, flag, moved, next, preconditioned, redirect, refused, residualOf, round, running, solution}
+use Rattle.iterative.specs.Method.{startsActive, step, stepped, steppedField, zeros}
 use Rattle.iterative.specs.Problem.{Problem, dotStep, fieldDot, mostRounds}
 use Rattle.iterative.specs.Reduced.{diagonalOf, problemBy, rightOf}
 use Rattle.iterative.specs.declared.Active.{Active}
@@ -114,8 +116,10 @@ pub record TurnPreconditioned (n a from into i : ℕ) (t : Vec3) (l l' : List Fl
   pub put : l' ≡ putAt vector l (into + 3 * i) (cond (eqb i a) origin (over (get vector l (from + 3 * i)) (diagonalIn l i)))
   pub dot : r ≡ dotStep a (load vector l' from n) (load vector l' into n) i t
 
-pub record TurnStepped (n a : ℕ) (op : Float → Float → Float) (active : Active) (alpha : Vec3) (into along i : ℕ) (t : Vec3) (l l' : List Float) (r : Vec3) : Type 0 where
-  pub put : l' ≡ putAt vector l (into + 3 * i) (cond (eqb i a) (get vector l (into + 3 * i)) (stepped op active alpha (get vector l (into + 3 * i)) (get vector l (along + 3 * i))))
+pub record TurnStepped (n a : ℕ) (op : Float → Float → Float) (active : Active) (alpha : Vec3) (into along i : ℕ) (t : Vec3) (l l' : List Float)
+    (r : Vec3) : Type 0 where
+  pub put : l' ≡ putAt vector l (into + 3 * i) (cond (eqb i a) (get vector l (into + 3 * i))
+      (stepped op active alpha (get vector l (into + 3 * i)) (get vector l (along + 3 * i))))
   pub dot : r ≡ dotStep a (load vector l' into n) (load vector l' into n) i t
 
 -- ---- passes that fill a field and sum a dot: l is the buffer before, l' after, r the dot
@@ -123,13 +127,16 @@ pub record TurnStepped (n a : ℕ) (op : Float → Float → Float) (active : Ac
 -- the field at `from` preconditioned, at `into`; its dot with what it was made of
 pub record Preconditioned (s : Shape) (a from into : ℕ) (l l' : List Float) (r : Vec3) : Type 0 where
   pub field : l' ≡ store vector l into (preconditioned (s .cameras) a (diagonalOf (load term l 0 (s .cameras))) (load vector l from (s .cameras)))
-  pub dot : r ≡ fieldDot (s .cameras) a (load vector l from (s .cameras)) (preconditioned (s .cameras) a (diagonalOf (load term l 0 (s .cameras))) (load vector l from (s .cameras)))
+  pub dot : r ≡ fieldDot (s .cameras) a (load vector l from (s .cameras))
+      (preconditioned (s .cameras) a (diagonalOf (load term l 0 (s .cameras))) (load vector l from (s .cameras)))
 
 -- the field at `into` stepped along the one at `along`; its dot with itself
 abbrev pub steppedIn : Shape → ℕ → (Float → Float → Float) → Active → Vec3 → ℕ → ℕ → List Float → List Vec3
-steppedIn s a op active alpha into along l = steppedField (s .cameras) a op active alpha (load vector l into (s .cameras)) (load vector l along (s .cameras))
+steppedIn s a op active alpha into along l = steppedField (s .cameras) a op active alpha (load vector l into (s .cameras))
+    (load vector l along (s .cameras))
 
-pub record FieldStepped (s : Shape) (a : ℕ) (op : Float → Float → Float) (active : Active) (alpha : Vec3) (into along : ℕ) (l l' : List Float) (r : Vec3) : Type 0 where
+pub record FieldStepped (s : Shape) (a : ℕ) (op : Float → Float → Float) (active : Active) (alpha : Vec3) (into along : ℕ) (l l' : List Float)
+    (r : Vec3) : Type 0 where
   pub field : l' ≡ store vector l into (steppedIn s a op active alpha into along l)
   pub dot : r ≡ fieldDot (s .cameras) a (steppedIn s a op active alpha into along l) (steppedIn s a op active alpha into along l)
 
@@ -154,7 +161,8 @@ steppedBy s a l r op = step (problemWith s a l op) (stateIn s l r) (load vector 
 
 -- the step along the search vector
 pub record Moved (s : Shape) (a : ℕ) (r : Round) (curvature : Vec3) (l l' : List Float) (t : Round) : Type 0 where
-  pub state : (op : List Vec3 → List Vec3) → stateIn s l' t ≡ moved (problemWith s a l op) (stateIn s l r) (load vector l (appliedAt s) (s .cameras)) curvature
+  pub state : (op : List Vec3 → List Vec3) → stateIn s l' t ≡ moved (problemWith s a l op) (stateIn s l r)
+      (load vector l (appliedAt s) (s .cameras)) curvature
   pub kept : SystemKept s l l'
 
 -- a whole round of a problem
@@ -181,7 +189,8 @@ pub record Opened (s : Shape) (a : ℕ) (l l' : List Float) : Type 0 where
   pub right : load vector l' (rightAt s) (s .cameras) ≡ rightOf (s .cameras) a (load term l 0 (s .cameras))
   pub positions : positionsIn s l' ≡ zeros (s .cameras)
   pub residual : load vector l' (residualAt s) (s .cameras) ≡ rightOf (s .cameras) a (load term l 0 (s .cameras))
-  pub search : load vector l' (searchAt s) (s .cameras) ≡ preconditioned (s .cameras) a (diagonalOf (load term l 0 (s .cameras))) (rightOf (s .cameras) a (load term l 0 (s .cameras)))
+  pub search : load vector l' (searchAt s) (s .cameras) ≡ preconditioned (s .cameras) a (diagonalOf (load term l 0 (s .cameras)))
+      (rightOf (s .cameras) a (load term l 0 (s .cameras)))
 
 -- the first round's record, of the fields in the buffer and the right side's square sums
 abbrev pub firstRound : Shape → ℕ → List Float → Vec3 → Round

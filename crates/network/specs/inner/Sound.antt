@@ -63,8 +63,10 @@ pub record LinksSound (L : Links) : Type 0 where
   pub ends : EndsSound (L .shape) (L .ends)
   pub offsets : OffsetsSound (L .shape .points) (L .shape .bearings) (L .offsets)
   pub listed : ListedSound (L .shape .bearings) (L .listed)
-  pub own : (p k : ℕ) → p < L .shape .points → getD (L .offsets) p 0 ≤ k → k < getD (L .offsets) (p + 1) 0 → secondEnd (L .ends) (getD (L .listed) k 0) ≡ p
-  pub ascends : (p k : ℕ) → p < L .shape .points → getD (L .offsets) p 0 ≤ k → k + 1 < getD (L .offsets) (p + 1) 0 → getD (L .listed) k 0 < getD (L .listed) (k + 1) 0
+  pub own : (p k : ℕ) → p < L .shape .points → getD (L .offsets) p 0 ≤ k → k < getD (L .offsets) (p + 1) 0 →
+      secondEnd (L .ends) (getD (L .listed) k 0) ≡ p
+  pub ascends : (p k : ℕ) → p < L .shape .points → getD (L .offsets) p 0 ≤ k → k + 1 < getD (L .offsets) (p + 1) 0 →
+      getD (L .listed) k 0 < getD (L .listed) (k + 1) 0
   pub once : (r : ℕ) → r < L .shape .bearings → named (L .listed) r (L .shape .bearings) ≡ 1
 
 -- a graph call's tests

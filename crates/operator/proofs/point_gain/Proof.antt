@@ -10,7 +10,8 @@ use Rattle.operator.proofs.point_gain.Statement.{statement}
 use Rattle.operator.proofs.point_gain.Tie as tie
 
 abbrev Inv-loop : tie.InvT-loop
-Inv-loop s ends listed work₀ anchor from into u first size i₀ work i = (i ≤ size) × (work ≡ applied s from into (times (listStep ends listed (record { first = first; size = size }) anchor u) i) work₀) × (length work ≡ length work₀)
+Inv-loop s ends listed work₀ anchor from into u first size i₀ work i = (i ≤ size) ×
+    (work ≡ applied s from into (times (listStep ends listed (record { first = first; size = size }) anchor u) i) work₀) × (length work ≡ length work₀)
 
 abbrev μ-loop : tie.MeasureT-loop
 μ-loop s ends listed work₀ anchor from into u first size i₀ work i = size - i

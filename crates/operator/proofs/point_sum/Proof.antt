@@ -12,7 +12,8 @@ use Rattle.operator.proofs.point_sum.Statement.{statement}
 use Rattle.operator.proofs.point_sum.Tie as tie
 
 abbrev Inv-loop : tie.InvT-loop
-Inv-loop s ends listed work from first size sum₀ i₀ sum i = (i ≤ size) × (sum ≡ upto (meanStep ends listed (record { first = first; size = size }) (weightsIn s work) (load vector work from (s .cameras))) i origin)
+Inv-loop s ends listed work from first size sum₀ i₀ sum i = (i ≤ size) ×
+    (sum ≡ upto (meanStep ends listed (record { first = first; size = size }) (weightsIn s work) (load vector work from (s .cameras))) i origin)
 
 abbrev μ-loop : tie.MeasureT-loop
 μ-loop s ends listed work from first size sum₀ i₀ sum i = size - i

@@ -11,7 +11,8 @@ use Rattle.network.specs.Network.{links}
 use Rattle.operator.proofs.points_pass.Tie as tie
 
 abbrev Inv-loop : tie.InvT-loop
-Inv-loop s ends offsets listed work₀ anchor from into m p₀ work p = (p ≤ m) × (work ≡ applied s from into (times (pointStep (links s ends offsets listed) anchor) p) work₀) × (length work ≡ length work₀)
+Inv-loop s ends offsets listed work₀ anchor from into m p₀ work p = (p ≤ m) × (work ≡ applied s from into (times (pointStep (links s ends offsets listed) anchor) p) work₀) ×
+    (length work ≡ length work₀)
 
 abbrev μ-loop : tie.MeasureT-loop
 μ-loop s ends offsets listed work₀ anchor from into m p₀ work p = m - p

@@ -14,5 +14,7 @@ fill-spec =
     (λ c. search needs)
     (λ c.
     let k = c .before .before .before .before .before .before in
-    let h = k .before .before in
-    (cameras-filled _ _ _ _ _ (h .positions-at .ensures) (h .before .before .before .before .before .before .before .before .before .before .before .pre .1 .1 .1 .0) (k .copy3 .ensures), search needs)))
+    let h = k .before .before in (
+      cameras-filled _ _ _ _ _ (h .positions-at .ensures) (h .before .before .before .before .before .before .before .before .before .before .before .pre .1 .1 .1 .0) (k .copy3 .ensures),
+      search needs,
+    )))

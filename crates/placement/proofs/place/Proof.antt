@@ -17,7 +17,8 @@ place-spec =
     let k = c .before .before .before .before in
     let h = k .before .before .before .before .before in
     let f = h .before .before .before .before in
-    placed-accepted _ _ _ _ _ _ _ _ _ _ _ _ _ _ _ (f .before .before .before .before .before .before .before .before .before .before .before .before .pre .0) (f .run .ensures) _ _ _ (h .answer .given .1) (k .fill .ensures .0) (k .fill .ensures .1))
+    placed-accepted _ _ _ _ _ _ _ _ _ _ _ _ _ _ _ (f .before .before .before .before .before .before .before .before .before .before .before .before .pre .0) (f .run .ensures) _ _ _
+    (h .answer .given .1) (k .fill .ensures .0) (k .fill .ensures .1))
     (λ c. search needs)
     (λ c. search needs)
     (λ c. search placed-refused))

@@ -11,6 +11,7 @@ form-spec =
     (λ c κs. omega arith)
     (λ c κs. (search needs, (search needs, (search needs, (search needs, omega arith)))))
     (λ c κs. (search needs, (search needs, omega arith)))
-    (λ c κs. let pre = c .before .before .before .before .before .before .before .before .before .before .before .before .before .before .before .before .before .before .before .before .pre in omega (arith, pre .0 .ends .shape, pre .1))
+    (λ c κs. let pre = c .before .before .before .before .before .before .before .before .before .before .before .before .before .before .before .before .before .before .before .before .pre in
+    omega (arith, pre .0 .ends .shape, pre .1))
     (λ c. omega arith)
     (λ c. search formed))

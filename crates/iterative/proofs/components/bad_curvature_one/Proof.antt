@@ -18,7 +18,12 @@ abs-requires : tie.Need-abs-requires
 abs-requires c κs = search needs
 
 returns-3 : tie.Need-returns-3
-returns-3 c = rw (not-false (c .before .before .before .before .args .active) (c .before .before .before .if1 .left), sym (c .before .before .is-finite .ensures) ∙ not-false _ (c .before .if2 .left), c .abs .ensures)
+returns-3 c = rw (
+  not-false (c .before .before .before .before .args .active) (c .before .before .before .if1 .left),
+  sym (c .before .before .is-finite .ensures)
+      ∙ not-false _ (c .before .if2 .left),
+  c .abs .ensures,
+)
 
 pub bad-curvature-one-spec : {M : Type 1} → statement M
 bad-curvature-one-spec = tie.close (tie.spec returns is-finite-requires returns-2 abs-requires returns-3)

@@ -12,7 +12,8 @@ use Rattle.iterative.proofs.fields.precondition.Statement.{statement}
 use Rattle.iterative.proofs.fields.precondition.Tie as tie
 
 abbrev Inv-loop : tie.InvT-loop
-Inv-loop work₀ anchor from into n sum₀ i₀ work sum i = (i ≤ n) × FillDot (preconditionedEntry anchor (diagonalOf (load term work₀ 0 n)) (load vector work₀ from n)) (load vector work₀ from n) n anchor into work₀ i work sum × (length work ≡ length work₀)
+Inv-loop work₀ anchor from into n sum₀ i₀ work sum i = (i ≤ n) × FillDot (preconditionedEntry anchor (diagonalOf (load term work₀ 0 n)) (load vector work₀ from n))
+    (load vector work₀ from n) n anchor into work₀ i work sum × (length work ≡ length work₀)
 
 abbrev μ-loop : tie.MeasureT-loop
 μ-loop work₀ anchor from into n sum₀ i₀ work sum i = n - i
@@ -28,6 +29,10 @@ precondition-spec =
     (λ c κs. omega arith)
     (λ c. omega arith)
     (λ c. omega arith)
-    (λ c. (omega arith, precondition-turn _ _ _ _ _ _ (omega arith) _ _ (omega arith) (omega arith) _ _ (omega arith) (c .before .before .before .before .before .loop .inv .1) (search needs), omega arith))
+    (λ c. (
+      omega arith,
+      precondition-turn _ _ _ _ _ _ (omega arith) _ _ (omega arith) (omega arith) _ _ (omega arith) (c .before .before .before .before .before .loop .inv .1) (search needs),
+      omega arith,
+    ))
     (λ c. c .before .loop .inv .2)
     (λ c. record { field = search fill-dot-field; dot = search fill-dot-sum }))

@@ -12,7 +12,9 @@ use Rattle.iterative.proofs.fields.step_field.Statement.{statement}
 use Rattle.iterative.proofs.fields.step_field.Tie as tie
 
 abbrev Inv-loop : tie.InvT-loop
-Inv-loop work₀ anchor adds active alpha into along n sum₀ i₀ work sum i = (i ≤ n) × FillDot (steppedEntry anchor (signed adds) active alpha (load vector work₀ into n) (load vector work₀ along n)) (field n (steppedEntry anchor (signed adds) active alpha (load vector work₀ into n) (load vector work₀ along n))) n anchor into work₀ i work sum × (length work ≡ length work₀)
+Inv-loop work₀ anchor adds active alpha into along n sum₀ i₀ work sum i =
+    (i ≤ n) × FillDot (steppedEntry anchor (signed adds) active alpha (load vector work₀ into n) (load vector work₀ along n))
+    (field n (steppedEntry anchor (signed adds) active alpha (load vector work₀ into n) (load vector work₀ along n))) n anchor into work₀ i work sum × (length work ≡ length work₀)
 
 abbrev μ-loop : tie.MeasureT-loop
 μ-loop work₀ anchor adds active alpha into along n sum₀ i₀ work sum i = n - i

@@ -11,7 +11,8 @@ use Rattle.iterative.proofs.fields.update_search.Statement.{statement}
 use Rattle.iterative.proofs.fields.update_search.Tie as tie
 
 abbrev Inv-loop : tie.InvT-loop
-Inv-loop work₀ active beta from into n i₀ work i = (i ≤ n) × (work ≡ store vector work₀ into (searchField i active beta (load vector work₀ from n) (load vector work₀ into n))) × (length work ≡ length work₀)
+Inv-loop work₀ active beta from into n i₀ work i = (i ≤ n) × (work ≡ store vector work₀ into (searchField i active beta (load vector work₀ from n) (load vector work₀ into n))) ×
+    (length work ≡ length work₀)
 
 abbrev μ-loop : tie.MeasureT-loop
 μ-loop work₀ active beta from into n i₀ work i = n - i

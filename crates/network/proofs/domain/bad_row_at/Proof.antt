@@ -20,7 +20,12 @@ either-requires-2 c κs = search needs
 
 returns : tie.Need-returns
 unfolding badRow
-returns c = rw (← c .before .before .before .before .bad-weight-at .ensures, ← c .before .before .before .bad-scale-at .ensures, ← c .before .before .bad-vector-at .ensures, ← c .before .either .ensures) (c .either2 .ensures)
+returns c = rw (
+  ← c .before .before .before .before .bad-weight-at .ensures,
+  ← c .before .before .before .bad-scale-at .ensures,
+  ← c .before .before .bad-vector-at .ensures,
+  ← c .before .either .ensures,
+) (c .either2 .ensures)
 
 pub bad-row-at-spec : {M : Type 1} → statement M
 bad-row-at-spec =

@@ -19,7 +19,16 @@ loop-holds : tie.Need-loop-holds Inv-loop μ-loop
 loop-holds c = (omega arith, lowest-zero _)
 
 disordered-at-requires : tie.Need-disordered-at-requires Inv-loop μ-loop
-disordered-at-requires c κs = (omega arith, (omega arith, (c .before .before .before .before .before .pre .1 .1 .1 .rises (c .before .loop .p) (omega arith), omega (arith, c .before .before .before .before .before .pre .1 .1 .1 .within (c .before .loop .p + 1) (omega arith)))))
+disordered-at-requires c κs = (
+  omega arith,
+  (
+    omega arith,
+    (
+      c .before .before .before .before .before .pre .1 .1 .1 .rises (c .before .loop .p) (omega arith),
+      omega (arith, c .before .before .before .before .before .pre .1 .1 .1 .within (c .before .loop .p + 1) (omega arith)),
+    ),
+  ),
+)
 
 returns : tie.Need-returns Inv-loop μ-loop
 returns c = sym (lowest-found _ _ _ (c .before .before .before .loop .inv .1) (sym (c .before .disordered-at .ensures) ∙ c .if1 .taken) (omega arith))

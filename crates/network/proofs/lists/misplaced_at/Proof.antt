@@ -52,7 +52,11 @@ shared-slice-read-result c = search needs
 
 returns-4 : tie.Need-returns-4
 unfolding misplaced
-returns-4 c = simp (lt-leb _ _ (c .before .before .before .before .if1 .left), eq-eqb _ _ (c .before .before .if2 .left), lt-ltb 0 (c .before .before .before .before .before .before .args .i) (omega arith))
+returns-4 c = simp (
+  lt-leb _ _ (c .before .before .before .before .if1 .left),
+  eq-eqb _ _ (c .before .before .if2 .left),
+  lt-ltb 0 (c .before .before .before .before .before .before .args .i) (omega arith),
+)
 
 pub misplaced-at-spec : {M : Type 1} → statement M
 misplaced-at-spec =

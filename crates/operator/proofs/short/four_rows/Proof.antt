@@ -15,6 +15,11 @@ four-rows-spec =
     (λ c κs. let d = c .before .before .before .before .before .before .before .before .pre in (d .0, (d .1 .0, omega (arith, d))))
     (λ c. omega (arith, c .before .before .before .before .before .before .before .before .before .before .pre))
     (λ c κs. let d = c .before .before .before .before .before .before .before .before .before .before .pre in (d .0, (d .1 .0, omega (arith, d))))
-    (λ c κs. omega (arith, c .before .before .before .before .before .before .before .before .before .before .before .before .pre, c .before .before .before .before .before .before .before .seen .ensures, c .before .before .before .before .before .seen2 .ensures))
+    (λ c κs. omega (
+      arith,
+      c .before .before .before .before .before .before .before .before .before .before .before .before .pre,
+      c .before .before .before .before .before .before .before .seen .ensures,
+      c .before .before .before .before .before .seen2 .ensures,
+    ))
     (λ c. search needs)
     (λ c. search four-done))

@@ -15,4 +15,10 @@ three-step-spec =
     (λ c κs. search needs)
     (λ c κs. search needs)
     (λ c. search needs)
-    (λ c. let d = c .before .before .before .before .before .before .before .before .before .before .before .before in both-stored (d .args .work .now) _ _ (d .args .into) (d .args .n) _ _ (two-kept _ _ _ _) (one-kept _ _ _) (c .before .before .before .before .before .before .two-gain .ensures) (c .before .before .push .ensures) (omega arith) ∙ rw (c .before .before .before .before .before .before .before .before .div .ensures, c .before .before .before .before .before .before .before .before .before .added .ensures, c .before .before .before .before .before .before .before .before .before .before .two-sum .ensures)))
+    (λ c. let d = c .before .before .before .before .before .before .before .before .before .before .before .before in
+    both-stored (d .args .work .now) _ _ (d .args .into) (d .args .n) _ _ (two-kept _ _ _ _) (one-kept _ _ _) (c .before .before .before .before .before .before .two-gain .ensures)
+    (c .before .before .push .ensures) (omega arith) ∙ rw (
+      c .before .before .before .before .before .before .before .before .div .ensures,
+      c .before .before .before .before .before .before .before .before .before .added .ensures,
+      c .before .before .before .before .before .before .before .before .before .before .two-sum .ensures,
+    )))

@@ -11,4 +11,6 @@ two-gain-spec =
     (λ c κs. search needs)
     (λ c κs. search needs)
     (λ c. search needs)
-    (λ c. let d = c .before .before .before .before .before .before .before .before .before in both-stored (d .args .work .now) _ _ (d .args .into) (d .args .n) _ _ (one-kept _ _ _) (one-kept _ _ _) (c .before .before .before .before .before .before .push .ensures) (c .before .before .push2 .ensures) (omega arith)))
+    (λ c. let d = c .before .before .before .before .before .before .before .before .before in
+    both-stored (d .args .work .now) _ _ (d .args .into) (d .args .n) _ _ (one-kept _ _ _) (one-kept _ _ _) (c .before .before .before .before .before .before .push .ensures)
+    (c .before .before .push2 .ensures) (omega arith)))
