@@ -6,7 +6,11 @@
  * Buffers. A pointer is aligned for its type and has that many elements behind it for the whole call. A buffer that a call changes
  * overlaps no other buffer of that call; buffers that it only reads may overlap. With length 0 nothing is read or written through the
  * pointer; pass a non-null aligned one all the same (the address of any object of the type will do), since NULL is nowhere promised.
- * No function keeps anything between calls, so calls on buffers of their own may run at the same time.
+ * No function keeps anything between calls: threads may call at the same time and share buffers that their calls only read; a buffer
+ * that a call changes belongs to that call while it runs.
+ *
+ * Floating point. Results are promised in the default environment: round to nearest, subnormal numbers neither flushed to zero nor
+ * read as zero.
  *
  * The network. n cameras, m points, b bearings, e directions. A row is a bearing or a direction; rows are numbered bearings first
  * (0 to b-1), then directions (b to b+e-1), and share their buffers:
@@ -19,7 +23,17 @@
  *   offsets     m+1    the point lists: point p has rows[offsets[p]] to rows[offsets[p+1] - 1], ascending
  *   rows         b
  *
- * Limits: n 1 to 4,096; m and e 0 to 65,536; b 0 to 262,144; dense limit 0 to 256.
+ * Rays are used as they are given: they are not normalised, and zero ones are not refused. For a ray of unit length the scale is one
+ * over the distance that the row is taken to span. With weights w and scales s a solve finds, up to rounding and the residual that
+ * refusal 13 allows, the positions that minimise, with the anchor held at 0,
+ *
+ *   sum over rows of w |s (second end - first end) - ray|^2  +  1e-6 sum over cameras |camera|^2
+ *
+ * where no camera has two bearings to one point. The anchor is the camera of the greatest sum of w s^2, the first of equals. The
+ * bearings of a point of a weight (its sum of w s^2) below 1e-12 are left out, and it keeps its old position.
+ *
+ * Limits: n 1 to 4,096; m and e 0 to 65,536; b 0 to 262,144; dense limit 0 to 256. (The solve program, which stands on these functions,
+ * takes images of at most 16,384 bytes and 64 cameras.)
  *
  * Answers. A function (but vobzeile_sqrt) returns 0, or the number of a refusal. The first number of `report` is then what was asked, or
  * the refusal's place; the rest of a report is left unless said otherwise. Where a report may have any length, nothing is reported
@@ -35,8 +49,8 @@
  *    8  route not 1, 2 or 3, or dense limit over 256              place 0
  *    9  iterative: diagonal + 1e-6 not finite                     camera
  *   10  iterative: it is finite and not above 0                   camera
- *   11  iterative: curvature not finite or too small              component (0, 1, 2 for x, y, z)
- *   12  iterative: new product not finite, or old one not above 0 component
+ *   11  iterative: curvature not finite, or at most 2^-52 times the size of the old product     component (0, 1, 2 for x, y, z)
+ *   12  iterative: new product not finite, or old one at or below 0     component
  *   13  iterative: final residual not finite or above the allowed component
  *   14  route 1 and n-1 over the dense limit                      n-1
  *   15  dense: pivot not finite or not above 0                    dense row (cameras without the anchor, in order)
