@@ -1,13 +1,8 @@
 /* Connectivity and the parts listing at full size, through the static library. Build and run: bench/graph */
-#include <stdint.h>
+#include "../include/vobzeile.h"
 #include <stdio.h>
 #include <stdlib.h>
 #include <time.h>
-
-size_t vobzeile_connected(size_t n, size_t m, size_t b, size_t e, const size_t *ends, size_t ends_len, const double *weights, size_t weights_len,
-    size_t *nodes, size_t nodes_len, size_t *report, size_t report_len);
-size_t vobzeile_parts(size_t n, size_t m, size_t b, size_t e, const size_t *ends, size_t ends_len, const double *weights, size_t weights_len,
-    size_t *nodes, size_t nodes_len, size_t *labels, size_t labels_len, size_t *report, size_t report_len);
 
 enum { N = 4096, M = 65536, B = 262144, E = 65536, R = B + E };
 static size_t ends[2 * R], nodes[N + M], labels[N];
