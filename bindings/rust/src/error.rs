@@ -1,6 +1,6 @@
 //! Refused calls.
 
-use crate::Counts;
+use crate::{Counts, MAX_BEARINGS, MAX_CAMERAS, MAX_DENSE_LIMIT, MAX_DIRECTIONS, MAX_POINTS};
 use std::fmt;
 
 /// A row of a network, a point or a camera, counted from 0 among its own kind.
@@ -53,8 +53,16 @@ pub enum Error {
     CameraCount,
     /// 2: over 65,536 points, 262,144 bearings or 65,536 directions.
     RowCount,
-    /// 3: a length differs from its count, or the work buffer is too short.
-    Length,
+    /// 3: a slice's length differs from what the counts ask for. Lengths are counted in the slice's own elements: positions, rays or
+    /// numbers. Where `expected` equals `actual`, the slice is not known.
+    Length {
+        /// The argument that is too long or too short, by its name.
+        slice: &'static str,
+        /// How many elements were expected (of `ends`, where the bearings are more than the rows, at least).
+        expected: usize,
+        /// How many came.
+        actual: usize,
+    },
     /// 4: a camera or point number is out of range.
     OutOfRange {
         /// The bearing or direction.
@@ -90,12 +98,12 @@ pub enum Error {
         /// The camera.
         camera: usize,
     },
-    /// 11, iterative: the curvature is not finite or too small.
+    /// 11, iterative: the curvature is not finite, or at most 2^-52 times the size of the old product.
     Curvature {
         /// 0, 1, 2 for x, y, z.
         component: usize,
     },
-    /// 12, iterative: the new product is not finite, or the old one not above 0.
+    /// 12, iterative: the new product is not finite, or the old one is at or below 0.
     Product {
         /// 0, 1, 2 for x, y, z.
         component: usize,
@@ -158,7 +166,11 @@ impl Error {
         match number {
             1 => Self::CameraCount,
             2 => Self::RowCount,
-            3 => Self::Length,
+            3 => Self::Length {
+                slice: "",
+                expected: 0,
+                actual: 0,
+            },
             4 => Self::OutOfRange { row, place },
             5 => Self::SelfLoop {
                 direction: place.saturating_sub(counts.bearings),
@@ -184,6 +196,24 @@ impl Error {
         }
     }
 
+    /// The refusal by its number and place; a length's with the first of these slices (name, expected, actual) that is wrong.
+    pub(crate) fn of_lengths(
+        number: usize,
+        place: usize,
+        counts: Counts,
+        slices: &[(&'static str, usize, usize)],
+    ) -> Self {
+        let wrong = slices.iter().find(|slice| slice.1 != slice.2);
+        match (number, wrong) {
+            (3, Some(&(slice, expected, actual))) => Self::Length {
+                slice,
+                expected,
+                actual,
+            },
+            _ => Self::of(number, place, counts),
+        }
+    }
+
     /// Nothing where the code is 0, else the refusal.
     pub(crate) fn check(code: usize, place: usize, counts: Counts) -> Result<(), Self> {
         match code {
@@ -197,7 +227,7 @@ impl Error {
         match *self {
             Self::CameraCount => 1,
             Self::RowCount => 2,
-            Self::Length => 3,
+            Self::Length { .. } => 3,
             Self::OutOfRange { .. } => 4,
             Self::SelfLoop { .. } => 5,
             Self::PointLists => 6,
@@ -225,7 +255,7 @@ impl Error {
         match *self {
             Self::CameraCount
             | Self::RowCount
-            | Self::Length
+            | Self::Length { .. }
             | Self::PointLists
             | Self::Route
             | Self::ImageHead => 0,
@@ -265,11 +295,19 @@ fn section_name(section: usize) -> &'static str {
 impl fmt::Display for Error {
     fn fmt(&self, formatter: &mut fmt::Formatter<'_>) -> fmt::Result {
         match *self {
-            Self::CameraCount => formatter.write_str("no camera, or over 4096 cameras"),
-            Self::RowCount => {
-                formatter.write_str("over 65536 points, 262144 bearings or 65536 directions")
+            Self::CameraCount => write!(formatter, "no camera, or over {MAX_CAMERAS} cameras"),
+            Self::RowCount => write!(
+                formatter,
+                "over {MAX_POINTS} points, {MAX_BEARINGS} bearings or {MAX_DIRECTIONS} directions"
+            ),
+            Self::Length {
+                slice,
+                expected,
+                actual,
+            } if expected != actual => {
+                write!(formatter, "{slice}: length {actual}, expected {expected}")
             }
-            Self::Length => formatter
+            Self::Length { .. } => formatter
                 .write_str("a length differs from its count, or the work buffer is too short"),
             Self::OutOfRange { row, .. } => {
                 let ends = match row {
@@ -292,7 +330,10 @@ impl fmt::Display for Error {
                 };
                 write!(formatter, "{row}: {numbers} outside the domain")
             }
-            Self::Route => formatter.write_str("no such route, or dense limit over 256"),
+            Self::Route => write!(
+                formatter,
+                "no such route, or dense limit over {MAX_DENSE_LIMIT}"
+            ),
             Self::DiagonalNotFinite { camera } => {
                 write!(formatter, "iterative: camera {camera}: diagonal not finite")
             }
@@ -309,7 +350,7 @@ impl fmt::Display for Error {
             ),
             Self::Product { component } => write!(
                 formatter,
-                "iterative: {}: new product not finite, or old product not above 0",
+                "iterative: {}: new product not finite, or old product at or below 0",
                 axis(component)
             ),
             Self::Residual { component } => write!(

@@ -7,13 +7,13 @@ use std::borrow::Cow;
 /// How many cameras, points, bearings and directions a network has.
 #[derive(Clone, Copy, Debug, Default, PartialEq, Eq, Hash)]
 pub struct Counts {
-    /// n: 1 to 4,096.
+    /// n: 1 to [`MAX_CAMERAS`](crate::MAX_CAMERAS).
     pub cameras: usize,
-    /// m: 0 to 65,536.
+    /// m: 0 to [`MAX_POINTS`](crate::MAX_POINTS).
     pub points: usize,
-    /// B: 0 to 262,144.
+    /// B: 0 to [`MAX_BEARINGS`](crate::MAX_BEARINGS).
     pub bearings: usize,
-    /// E: 0 to 65,536.
+    /// E: 0 to [`MAX_DIRECTIONS`](crate::MAX_DIRECTIONS).
     pub directions: usize,
 }
 
@@ -31,11 +31,11 @@ pub struct Bearing {
     pub camera: usize,
     /// Point number.
     pub point: usize,
-    /// Ray from the camera toward the point, usually of unit length.
+    /// Ray from the camera toward the point, usually of unit length: it is not normalised here.
     pub ray: [f64; 3],
     /// Finite, not below 0.
     pub weight: f64,
-    /// Finite, above 0.
+    /// Finite, above 0; for a unit ray, one over the distance that the row is taken to span.
     pub scale: f64,
 }
 
@@ -46,18 +46,19 @@ pub struct Direction {
     pub source: usize,
     /// Target camera, another one.
     pub target: usize,
-    /// Direction from source to target, usually of unit length.
+    /// Direction from source to target, usually of unit length: it is not normalised here.
     pub direction: [f64; 3],
     /// Finite, not below 0.
     pub weight: f64,
-    /// Finite, above 0.
+    /// Finite, above 0; for a unit ray, one over the distance that the row is taken to span.
     pub scale: f64,
 }
 
 /// Rows and points with their point lists, owned or borrowed.
 ///
-/// Rows are numbered bearings first, then directions; duplicate rows are added up. A network was tested when it was made (refusals 1
-/// to 5 and 7). Weights, scales and points may be set anew afterwards: each call tests what it is lent.
+/// Rows are numbered bearings first, then directions; duplicate rows are added up. Rays are used as they are given: they are not
+/// normalised, and zero ones are not refused. A network was tested when it was made (refusals 1 to 5 and 7). Weights, scales and points
+/// may be set anew afterwards: each call tests what it is lent. Threads may share a network that none of them changes.
 #[derive(Clone, Debug, PartialEq)]
 pub struct Network<'a> {
     cameras: usize,
@@ -73,7 +74,13 @@ pub struct Network<'a> {
 
 impl<'a> Network<'a> {
     /// A network of rows that are laid out already, lent or handed over: the first `bearings` of them are bearings, whose ends are camera
-    /// and point, the others directions, whose ends are source and target.
+    /// and point, the others directions, whose ends are source and target. The rows are those of `ends`; `rays`, `weights` and `scales`
+    /// have one element each for a row.
+    ///
+    /// # Errors
+    ///
+    /// By 1 (`cameras`), 2 (too many rows or points), 3 (a slice of another length than `ends`, or more bearings than rows), 4 (an end
+    /// out of range), 5 (a direction from a camera to itself), 7 (a number outside the domain).
     pub fn new(
         cameras: usize,
         bearings: usize,
@@ -103,7 +110,17 @@ impl<'a> Network<'a> {
         let mut report = [0];
         match ffi::write(&self.lent(), &mut [], &mut report) {
             23 => Ok(report[0]),
-            number => Err(Error::of(number, report[0], self.counts())),
+            number => {
+                let counts = self.counts();
+                let rows = self.ends.len();
+                let slices = [
+                    ("ends", counts.rows(), rows),
+                    ("rays", rows, self.rays.len()),
+                    ("weights", rows, self.weights.len()),
+                    ("scales", rows, self.scales.len()),
+                ];
+                Err(Error::of_lengths(number, report[0], counts, &slices))
+            }
         }
     }
 
@@ -202,18 +219,18 @@ impl<'a> Network<'a> {
 
     /// Sets the weight of each row; refused by 3 unless there are as many. Their domain is tested by the calls.
     pub fn set_weights(&mut self, weights: &[f64]) -> Result<(), Error> {
-        set(&mut self.weights, weights)
+        set("weights", &mut self.weights, weights)
     }
 
     /// Sets the scale of each row, as [`scales`](crate::scales) gives them; refused by 3 unless there are as many. Their domain is
     /// tested by the calls.
     pub fn set_scales(&mut self, scales: &[f64]) -> Result<(), Error> {
-        set(&mut self.scales, scales)
+        set("scales", &mut self.scales, scales)
     }
 
     /// Sets the points, as a solve placed them; refused by 3 unless there are as many. Their domain is tested by the calls.
     pub fn set_points(&mut self, points: &[[f64; 3]]) -> Result<(), Error> {
-        set(&mut self.points, points)
+        set("points", &mut self.points, points)
     }
 
     /// The same network, owning all it holds.
@@ -232,9 +249,13 @@ impl<'a> Network<'a> {
     }
 }
 
-fn set<T: Copy>(held: &mut Cow<'_, [T]>, numbers: &[T]) -> Result<(), Error> {
+fn set<T: Copy>(slice: &'static str, held: &mut Cow<'_, [T]>, numbers: &[T]) -> Result<(), Error> {
     if held.len() != numbers.len() {
-        return Err(Error::Length);
+        return Err(Error::Length {
+            slice,
+            expected: held.len(),
+            actual: numbers.len(),
+        });
     }
     held.to_mut().copy_from_slice(numbers);
     Ok(())

@@ -95,7 +95,7 @@ impl Workspace {
     }
 }
 
-/// The doubles that the work buffer of a solve needs.
+/// The doubles that the work buffer of a solve needs; a [`Workspace`] grows to it by itself. Refused by 1 and 2.
 pub fn work_length(counts: Counts, route: Route, dense_limit: usize) -> Result<usize, Error> {
     let mut report = [0];
     let code = ffi::work_length(counts, route.number(), dense_limit, &mut report);
@@ -103,7 +103,21 @@ pub fn work_length(counts: Counts, route: Route, dense_limit: usize) -> Result<u
     Ok(report[0])
 }
 
-/// Places every camera and point.
+/// Places every camera and point: with the network's weights w and scales s, the positions that minimise
+/// Σ w |s (second end - first end) - ray|² over the rows, plus 1e-6 Σ |camera|², with the anchor held at 0 (where no camera has two
+/// bearings to one point).
+///
+/// # Arguments
+///
+/// - `network`: the rows, and the old points, which a point keeps where its weight (its sum of w s²) is below 1e-12.
+/// - `workspace`: buffers to work in; it grows where it must, and what it holds makes no difference.
+/// - `route`: dense, iterative, or iterative and then dense.
+/// - `dense_limit`: the most dense rows (n-1) that a route may go dense with, 0 to [`MAX_DENSE_LIMIT`](crate::MAX_DENSE_LIMIT).
+///
+/// # Errors
+///
+/// By 7 (a weight, scale or point that was set anew is outside the domain), 8 (`dense_limit` over its limit), 9 to 13 (the iterative
+/// part gave up), 14 ([`Route::Dense`], and n-1 is over the limit), 15 to 17 (the dense part gave up). The network is only read.
 pub fn solve(
     network: &Network<'_>,
     workspace: &mut Workspace,
@@ -130,8 +144,11 @@ pub fn solve(
     })
 }
 
-/// Places every camera and point in the caller's buffers, of n and m positions, which a refusal leaves as they were. Nothing is allocated
-/// where the workspace has room.
+/// [`solve`] into the caller's buffers: `cameras` has n positions, `points` m. Nothing is allocated where the workspace has room.
+///
+/// # Errors
+///
+/// By 3 (`cameras` or `points` of another length), and as of [`solve`]. A refusal leaves `cameras` and `points` as they were.
 pub fn solve_into(
     network: &Network<'_>,
     workspace: &mut Workspace,
@@ -150,7 +167,13 @@ pub fn solve_into(
         report: &mut report,
     };
     let code = ffi::solve(&network.lent(), route.number(), dense_limit, solved);
-    Error::check(code, report[0], counts)?;
+    if code != 0 {
+        let slices = [
+            ("cameras", counts.cameras, cameras.len()),
+            ("points", counts.points, points.len()),
+        ];
+        return Err(Error::of_lengths(code, report[0], counts, &slices));
+    }
     let [anchor, answered, rounds] = report;
     let route = match answered {
         1 => Route::Dense,

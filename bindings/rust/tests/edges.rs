@@ -2,7 +2,7 @@
 
 mod common;
 
-use common::{FIVE, X, Z, all_bits, network, pair, sight};
+use common::{FIVE, X, Z, all_bits, length, network, pair, sight};
 use vobzeile::{
     Counts, Error, Network, Placement, Route, Row, Workspace, dots, dots_into, is_connected, parts,
     scales, scales_into, solve, solve_into, sqrt, work_length,
@@ -175,12 +175,13 @@ fn dots_and_scales_of_the_whole_case() {
     let mut out = [7.0; 2];
     for call in [dots_into, scales_into] {
         let error = call(&network, &placement.cameras, &mut out).unwrap_err();
-        assert_eq!((error, out), (Error::Length, [7.0; 2]));
+        assert_eq!((error, out), (length("out", 1, 2), [7.0; 2]));
+        assert_eq!(error.to_string(), "out: length 2, expected 1");
         call(&network, &placement.cameras, &mut out[..1]).unwrap();
         assert_ne!(out[0], 7.0);
         out[0] = 7.0;
         let error = call(&network, &[], &mut out[..1]).unwrap_err();
-        assert_eq!((error, out), (Error::Length, [7.0; 2]));
+        assert_eq!((error, out), (length("cameras", 1, 0), [7.0; 2]));
         let nowhere = [[0.0, f64::NAN, 0.0]];
         let error = call(&network, &nowhere, &mut out[..1]).unwrap_err();
         let row = Row::Camera(0);
@@ -264,9 +265,10 @@ fn into_the_callers_buffers() {
         solve_into(&network, &mut workspace, route, 48, cameras, points)
     };
     let (mut cameras, mut points) = ([[7.0; 3]; 2], [[7.0; 3]; 2]);
-    assert_eq!(run(&mut cameras, &mut points[..1]), Err(Error::Length));
-    assert_eq!(run(&mut cameras[..1], &mut points), Err(Error::Length));
-    assert_eq!(run(&mut [], &mut []), Err(Error::Length));
+    let wrong = |slice, actual| Err(length(slice, 1, actual));
+    assert_eq!(run(&mut cameras, &mut points[..1]), wrong("cameras", 2));
+    assert_eq!(run(&mut cameras[..1], &mut points), wrong("points", 2));
+    assert_eq!(run(&mut [], &mut []), wrong("cameras", 0));
     assert_eq!((cameras, points), ([[7.0; 3]; 2], [[7.0; 3]; 2]));
     let report = run(&mut cameras[..1], &mut points[..1]).unwrap();
     assert_eq!(

@@ -2,9 +2,10 @@
 
 mod common;
 
-use common::{FIVE, X, Z, network};
+use common::{FIVE, X, Z, length, network};
 use vobzeile::{
-    Bearing, Counts, Direction, Error, Network, NetworkBuilder, Route, Row, Workspace, dots, solve,
+    Bearing, Counts, Direction, Error, MAX_BEARINGS, MAX_CAMERAS, MAX_DENSE_LIMIT, MAX_DIRECTIONS,
+    MAX_POINTS, Network, NetworkBuilder, Route, Row, Workspace, dots, solve, work_length,
 };
 
 fn bearing(camera: usize, point: usize) -> Bearing {
@@ -130,6 +131,31 @@ fn row_count() {
     refused(builder.push_bearing(bearing(0, 0)), Error::RowCount, words);
 }
 
+/// The constants are the library's own limits.
+#[test]
+fn limits() {
+    let counts = Counts {
+        cameras: MAX_CAMERAS,
+        points: MAX_POINTS,
+        bearings: MAX_BEARINGS,
+        directions: MAX_DIRECTIONS,
+    };
+    let length = |counts| work_length(counts, Route::Iterative, MAX_DENSE_LIMIT);
+    let rows = MAX_BEARINGS + MAX_DIRECTIONS;
+    assert_eq!(length(counts), Ok(23 * MAX_CAMERAS + 4 * MAX_POINTS + rows));
+    let mut more = [counts; 4];
+    more[0].cameras += 1;
+    more[1].points += 1;
+    more[2].bearings += 1;
+    more[3].directions += 1;
+    let refused = more.map(|counts| length(counts).unwrap_err().number());
+    assert_eq!(refused, [1, 2, 2, 2]);
+    let network = mixed().build().unwrap();
+    let run = |limit| solve(&network, &mut Workspace::new(), Route::Dense, limit).map(|_| ());
+    assert_eq!(run(MAX_DENSE_LIMIT), Ok(()));
+    assert_eq!(run(MAX_DENSE_LIMIT + 1), Err(Error::Route));
+}
+
 #[test]
 fn lengths() {
     let new = |bearings: usize, ends: usize, rays: usize, weights: usize, scales: usize| {
@@ -151,14 +177,14 @@ fn lengths() {
         directions: 2,
     };
     assert_eq!(new(1, 3, 3, 3, 3), Ok(counts));
-    assert_eq!(new(1, 3, 2, 3, 3), Err(Error::Length));
-    assert_eq!(new(1, 3, 3, 4, 3), Err(Error::Length));
-    assert_eq!(new(1, 3, 3, 3, 0), Err(Error::Length));
+    assert_eq!(new(1, 3, 2, 3, 3), Err(length("rays", 3, 2)));
+    assert_eq!(new(1, 3, 3, 4, 3), Err(length("weights", 3, 4)));
+    assert_eq!(new(1, 3, 3, 3, 0), Err(length("scales", 3, 0)));
     // more bearings than rows
-    assert_eq!(new(4, 3, 3, 3, 3), Err(Error::Length));
-    assert_eq!(new(262144, 3, 3, 3, 3), Err(Error::Length));
+    assert_eq!(new(4, 3, 3, 3, 3), Err(length("ends", 4, 3)));
+    assert_eq!(new(262144, 3, 3, 3, 3), Err(length("ends", 262144, 3)));
     assert_eq!(new(usize::MAX, 3, 3, 3, 3), Err(Error::RowCount));
-    assert_eq!(new(1, 0, 0, 0, 0), Err(Error::Length));
+    assert_eq!(new(1, 0, 0, 0, 0), Err(length("ends", 1, 0)));
 }
 
 #[test]
@@ -241,9 +267,11 @@ fn outside_the_domain() {
 #[test]
 fn set_anew() {
     let mut network = network(2, &[(1, 0, Z, 1.0, 1.0)], &[(0, 1, X, 1.0, 1.0)], &[FIVE]);
-    assert_eq!(network.set_weights(&[1.0]), Err(Error::Length));
-    assert_eq!(network.set_scales(&[]), Err(Error::Length));
-    assert_eq!(network.set_points(&[FIVE, FIVE]), Err(Error::Length));
+    assert_eq!(network.set_weights(&[1.0]), Err(length("weights", 2, 1)));
+    assert_eq!(network.set_scales(&[]), Err(length("scales", 2, 0)));
+    let wrong = length("points", 1, 2);
+    assert_eq!(network.set_points(&[FIVE, FIVE]), Err(wrong));
+    assert_eq!(wrong.to_string(), "points: length 2, expected 1");
     let before = network.clone();
     let refusal = |network: &Network| {
         let refused = solve(network, &mut Workspace::new(), Route::Dense, 1).unwrap_err();

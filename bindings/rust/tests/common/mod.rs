@@ -2,7 +2,7 @@
 #![allow(dead_code)]
 
 use std::path::{Path, PathBuf};
-use vobzeile::{Bearing, Direction, Network};
+use vobzeile::{Bearing, Direction, Error, Network};
 
 /// The root of the repository, if this package stands in one.
 pub fn repository() -> Option<PathBuf> {
@@ -69,4 +69,13 @@ pub fn bits(number: f64) -> u64 {
 
 pub fn all_bits(numbers: &[f64]) -> Vec<u64> {
     numbers.iter().copied().map(bits).collect()
+}
+
+/// The refusal by 3 of this slice.
+pub fn length(slice: &'static str, expected: usize, actual: usize) -> Error {
+    Error::Length {
+        slice,
+        expected,
+        actual,
+    }
 }
