@@ -1,10 +1,23 @@
 //! Whole steps of the kernel's alternation, as its `solve_into` has them: solve, dots, gauge, scales, and again with the new scales until
-//! the cameras settle. Weights stay 1; the robust rule and the polish are the caller's.
+//! the cameras settle. The route is the kernel's own choice, and so is what counts in the gauge. Weights stay the base weights, 1; the
+//! robust rule and the polish are the caller's.
 
 use vobzeile::{
-    Bearing, Direction, Error, Network, Route, Workspace, dots_into, is_connected, scales_into,
-    solve_into,
+    Bearing, Direction, Error, MAX_DENSE_LIMIT, Network, Route, Workspace, dots_into, is_connected,
+    scales_into, solve_into,
 };
+
+/// The kernel's `DENSE_DIRECT_MAX_CAMERAS`.
+const DENSE_DIRECT_MAX_CAMERAS: usize = 256;
+
+/// The route that stands for the kernel's `solve_reduced`: dense up to 256 cameras, else iterative with a dense fallback.
+fn kernel_route(cameras: usize) -> Route {
+    if cameras <= DENSE_DIRECT_MAX_CAMERAS {
+        Route::Dense
+    } else {
+        Route::IterativeThenDense
+    }
+}
 
 type Vector = [f64; 3];
 
@@ -78,24 +91,27 @@ fn strip(random: &mut Random) -> Result<(Network<'static>, Vec<Vector>), Error> 
     Ok((builder.build()?, cameras))
 }
 
-/// `normalize_trial_gauge`: the median depth of what lies in front of its camera becomes 1.
+/// `normalize_trial_gauge`: the median depth becomes 1, over the bearings that keep more than half their base weight and whose point lies
+/// in front; where there are none, over such directions.
 fn normalize_gauge(
     network: &Network,
+    base_weights: &[f64],
     dots: &[f64],
     cameras: &mut [Vector],
     points: &mut [Vector],
 ) -> f64 {
-    let in_front = |row: usize| dots[row] > 0.0;
+    let weights = network.weights();
+    let counts_in = |row: usize| weights[row] > 0.5 * base_weights[row] && dots[row] > 0.0;
     let bearings = network.bearings().enumerate();
     let mut depths: Vec<f64> = bearings
-        .filter(|(row, _)| in_front(*row))
+        .filter(|(row, _)| counts_in(*row))
         .map(|(_, sight)| norm(minus(points[sight.point], cameras[sight.camera])))
         .collect();
     if depths.is_empty() {
         let first = network.counts().bearings;
         let directions = network.directions().enumerate();
         depths = directions
-            .filter(|(row, _)| in_front(first + row))
+            .filter(|(row, _)| counts_in(first + row))
             .map(|(_, edge)| norm(minus(cameras[edge.target], cameras[edge.source])))
             .collect();
     }
@@ -144,8 +160,9 @@ fn error(cameras: &[Vector], truth: &[Vector]) -> f64 {
 fn main() -> Result<(), Error> {
     let (mut network, truth) = strip(&mut Random(42))?;
     let counts = network.counts();
-    let route = Route::IterativeThenDense;
-    let limit = 256;
+    let base_weights = network.weights().to_vec();
+    let route = kernel_route(counts.cameras);
+    let limit = MAX_DENSE_LIMIT;
     let mut workspace = Workspace::for_network(&network, route, limit)?;
     assert!(is_connected(&network, &mut workspace)?);
 
@@ -168,7 +185,7 @@ fn main() -> Result<(), Error> {
         )?;
         network.set_points(&points)?;
         dots_into(&network, &cameras, &mut numbers)?;
-        let depth = normalize_gauge(&network, &numbers, &mut cameras, &mut points);
+        let depth = normalize_gauge(&network, &base_weights, &numbers, &mut cameras, &mut points);
         network.set_points(&points)?;
         scales_into(&network, &cameras, &mut numbers)?;
         network.set_scales(&numbers)?;
