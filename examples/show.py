@@ -156,9 +156,9 @@ def finite(place):
     return all(map(math.isfinite, place))
 
 
-def ticks(low, high, length):
-    """Round numbers from low to high, some 70 pixels apart."""
-    step = (high - low) / max(1.0, length / 70)
+def ticks(low, high, length, apart):
+    """Round numbers from low to high, some pixels apart."""
+    step = (high - low) / max(1.0, length / apart)
     power = 10.0 ** math.floor(math.log10(step))
     step = next(k * power for k in (1, 2, 5, 10) if k * power >= step * 0.999)
     first = math.ceil(low / step)
@@ -185,11 +185,11 @@ class Panel:
         yield f'<text x="{LEFT}" y="{self.top - 8:.1f}" font-weight="bold">{self.title}</text>'
         yield f'<rect x="{LEFT}" y="{self.top:.1f}" width="{self.width:.1f}" height="{self.height:.1f}" fill="#fff" stroke="#999"/>'
         bottom, margin = self.top + self.height, ROOM / self.scale
-        for t in ticks(self.low_x - margin, self.high_x + margin, self.width):
+        for t in ticks(self.low_x - margin, self.high_x + margin, self.width, 60):
             x = LEFT + ROOM + (t - self.low_x) * self.scale
             yield f'<path d="M{x:.1f} {bottom:.1f}v4" stroke="#999"/>'
             yield f'<text x="{x:.1f}" y="{bottom + 15:.1f}" text-anchor="middle" fill="#555">{t:.6g}</text>'
-        for t in ticks(self.low - margin, self.high + margin, self.height):
+        for t in ticks(self.low - margin, self.high + margin, self.height, 40):
             y = self.top + ROOM + (self.high - t) * self.scale
             yield f'<path d="M{LEFT} {y:.1f}h-4" stroke="#999"/>'
             yield f'<text x="{LEFT - 7}" y="{y + 3.5:.1f}" text-anchor="end" fill="#555">{t:.6g}</text>'
@@ -214,10 +214,12 @@ class Panel:
         return list(spots.values())
 
     def label(self, x, y, words, size, colour, reach=5):
-        """A label beside a spot where there is room for it, else none."""
+        """A label beside a spot where there is room for it, else none; a small one goes under the spot first."""
         width = 0.62 * size * len(words)
         over, under, beside, level = -reach - 2 - size * 0.2, reach + 3 + size * 0.8, reach + 3 + width / 2, size * 0.35
         spots = ((0, over), (0, under), (beside, level), (-beside, level), (beside, over), (-beside, over), (beside, under), (-beside, under))
+        if size < 11:
+            spots = spots[1::-1] + spots[2:]
         for dx, dy in spots:
             cx, cy = x + dx, y + dy
             box = (cx - width / 2, cy - size * 0.8, cx + width / 2, cy + size * 0.2)
@@ -250,11 +252,13 @@ class Panel:
             self.taken.append((x - 9, y - 9, x + 9, y + 9))
         anchor_first = sorted(camera_spots, key=lambda spot: answer['anchor'] not in spot[2])
         name = lambda many: ','.join(map(str, many[:3])) + (f' +{len(many) - 3}' if len(many) > 3 else '')
+        yield '<g paint-order="stroke" stroke="#fff" stroke-width="2.5">'
         for x, y, many in anchor_first:
             anchored = answer['anchor'] in many
             yield from self.label(x, y, name(many), 11, '#d00' if anchored else '#000', 9 if anchored else 5)
         for x, y, many in point_spots:
             yield from self.label(x, y, name(many), 8, '#666')
+        yield '</g>'
 
 
 def svg(width, height, body):
