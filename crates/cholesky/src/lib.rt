@@ -517,7 +517,7 @@ fn factor_columns(a: &mut [f64], p: &mut [f64], d: usize) -> Solve
     last_rows(a, d, j, rows)
 }
 
-// The kernel's cholesky_factor_in_place.
+// The factor: the Rust's `cholesky_factor_in_place`.
 pub fn factor(a: &mut [f64], d: usize) -> Solve
     requires { ⌜ length (now a) ≡ d * d ⌝ }
     ensures { λ r. ⌜ ended r (now (a .exit)) ≡ factorOf d (now (a .entry)) ⌝ }
@@ -613,7 +613,7 @@ fn back(s: &mut [f64], d: usize) -> Solve
     Solve::Done
 }
 
-// The kernel's cholesky_solve_in_place, for the three coordinates at once.
+// Both substitutions: the Rust's `cholesky_solve_in_place`, for the three coordinates at once.
 pub fn substitute(s: &mut [f64], d: usize) -> Solve
     requires { ⌜ length (now s) ≡ d * d + 3 * d ⌝ }
     ensures { λ r. ⌜ Substituted d (now (s .entry)) (now (s .exit)) r (backOf d (take (d * d) (now (s .entry)))

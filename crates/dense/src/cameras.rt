@@ -1,4 +1,4 @@
-// The right side of the dense system, and the cameras of its solution: the second half of the Rust's `solve_reduced_dense`.
+// The right side of the dense system, and the cameras of its solution: the Rust's `solve_with_factor`.
 use crate::rows::DenseRow;
 use crate::rows::Row;
 use crate::rows::dense_row;

@@ -25,7 +25,8 @@ ghost use Rattle.dense.specs.Matrix.{matrixBy};
 ghost use Rattle.dense.specs.Dense.{dimension, camerasBy, denseSolutionBy};
 ghost use Rattle.dense.specs.inner.Held.{DenseRoom, MatrixFactored, DenseSolved};
 
-// The matrix of d rows, in its segment of the work buffer, of the weights and the terms that stand there.
+// The matrix of d rows, in its segment of the work buffer, of the weights and the terms that stand there: the first half of the Rust's
+// `factor_reduced_dense`.
 fn build_matrix(
     s: Shape,
     ends: &[usize],
@@ -47,7 +48,7 @@ fn build_matrix(
     couple_rows(s, ends, offsets, listed, anchor, d, work);
 }
 
-// The matrix factored where it stands.
+// The matrix factored where it stands: the second half.
 fn factor_matrix(s: Shape, d: usize, work: &mut [f64]) -> Solve
     requires { ⌜ ShapeSound s ⌝ }
     requires { ⌜ DenseRoom s d (length (now work)) ⌝ }
@@ -73,7 +74,8 @@ fn solve_matrix(s: Shape, anchor: usize, d: usize, work: &mut [f64]) -> Solve
     place_cameras(s, anchor, d, work)
 }
 
-// Solves the dense system that stands in the work buffer (`solve_reduced_dense`). Where it is done, the positions' segment holds the cameras.
+// Solves the dense system that stands in the work buffer: the Rust's `solve_reduced_dense`. Where it is done, the positions' segment holds
+// the cameras.
 pub fn solve_dense(
     s: Shape,
     ends: &[usize],

@@ -1,46 +1,53 @@
 -- Every row of the table holds: by computing, or by what the crates below computed. Assumes nothing.
-use mathlib.Core.Path.{refl, ap}
-use lib.Ieee.{toBits}
-use Rattle.field.specs.Vec.{isFinite}
-use Rattle.network.specs.Lists.{none, falls, offsetsRise, misplaced, disordered, named, miscounted, listsHold}
-use Rattle.network.specs.Refusals.{test, testAt, andThen, verdict, running, badCameras, badCounts, countTests}
-use Rattle.network.specs.Refusals.{endsFit, raysFit, vectorsFit, listsFit, contentFits, networkFits, lengthTests, strays, loops, endTests, listTests}
-use Rattle.network.specs.Refusals.{badWeight, badScale, badVector, badRow, domainTests, networkRowTests, badRoute, routeTests, denseRows}
-use Rattle.graph.proofs.Edges.{edge-row}
+use mathlib.Core.Path.{_≡_, refl, ap, _∙_}
+use mathlib.Core.List.{List, [], _∷_}
+use lib.Ieee.{Float, toBits}
 use Rattle.sqrt.specs.Root.{root}
+use Rattle.field.specs.declared.Vec3.{Vec3}
+use Rattle.field.specs.Vec.{origin}
+use Rattle.field.specs.Buffer.{flat, vector}
+use Rattle.network.proofs.Computing.{refusals}
+use Rattle.graph.proofs.Edges.{two-parts, two-labels}
 use Rattle.system.specs.System.{anchor}
 use Rattle.system.specs.Work.{workLength}
-use Rattle.system.specs.Edges.{single, directed, pair}
+use Rattle.system.specs.Edges.{single, directed, pair, triple}
 use Rattle.system.proofs.Edges.{faint-mean, faint-right}
-use Rattle.recover.proofs.Edges.{recover-edges}
+use Rattle.recover.specs.Recover.{pointsOf}
+use Rattle.recover.proofs.Edges.{scale-edges, point-seen, point-unseen, point-faint}
 use Rattle.iterative.proofs.Examples.{computing, most-rounds}
-use Rattle.dense.specs.Edges.{pair as densePair, triple}
 use Rattle.dense.proofs.Edges.{pair-stops, triple-stops}
-use Rattle.placement.specs.Routes.{byDense, routedBy, routed, buffersFit, submissionTests, placement}
-use Rattle.edges.specs.Edges.{Edges}
+use Rattle.placement.specs.Routes.{Placement, placed, report, submission, byDense, routedBy, routed, buffersFit, submissionTests, placement}
+use Rattle.placement.specs.Solved.{answerOf, camerasAfter, pointsAfter}
+use Rattle.edges.specs.Edges.{Edges, Solves}
 
 -- to unfold this is to unfold what a solve is computed with, but for its dense part
 unfoldable solving : Unit {0}
-unfolding computing placement routed routedBy submissionTests buffersFit workLength verdict andThen test testAt running
-    countTests badCameras badCounts lengthTests networkFits contentFits endsFit raysFit vectorsFit listsFit networkRowTests endTests strays loops
-    listTests listsHold none falls offsetsRise misplaced disordered named miscounted domainTests badWeight badScale isFinite badVector badRow
-    routeTests badRoute denseRows
+unfolding computing refusals placement routed routedBy submissionTests buffersFit workLength
 solving = tt
 
+-- one camera: the solve's end and the recovered point make the row
+solves : (w s x y z : Float) → placement (submission (single w s) 3 48 28 3 3) ≡ placed (report 0 2 0) (origin ∷ []) →
+    pointsOf (single w s) (origin ∷ []) ≡ record { x = x; y = y; z = z } ∷ [] → Solves w s x y z
+solves w s x y z e q = record {
+  answer = ap answerOf e;
+  camera = λ old. ap (λ (p : Placement). camerasAfter p old) e;
+  point = λ old. ap (λ (p : Placement). pointsAfter (single w s) p old) e ∙ ap (flat vector) q;
+}
+
 pub edges : Edges
-unfolding solving single directed densePair triple root toBits
+unfolding solving single directed triple root toBits
 edges = record {
-  whole-case = (refl, recover-edges .seen);
-  weightless = (refl, recover-edges .unseen);
+  whole-case = solves _ _ _ _ _ refl point-seen;
+  weightless = solves _ _ _ _ _ refl point-unseen;
   faint-mean = faint-mean;
   faint-right = faint-right;
-  faint-case = (refl, recover-edges .faint);
+  faint-case = solves _ _ _ _ _ refl point-faint;
   diagonal-overflows = refl;
   pivot-overflows = ap (byDense (anchor pair) 1) pair-stops;
   entry-overflows = ap (byDense (anchor triple) 1) triple-stops;
-  recovered = recover-edges;
-  not-connected = edge-row .0;
-  labels = (edge-row .1, edge-row .2, edge-row .3);
+  scales = scale-edges;
+  not-connected = two-parts;
+  labels = two-labels;
   root-of-least = refl;
   root-of-two = refl;
   most-rounds = most-rounds;

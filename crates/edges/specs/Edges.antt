@@ -2,52 +2,51 @@
 -- The claim that all of them hold is `edges` of proofs/Claim.
 use mathlib.Core.Path.{_≡_}
 use mathlib.Core.Bool.{false}
-use mathlib.Core.List.{[], _∷_}
+use mathlib.Core.List.{List, [], _∷_}
+use Prim.Native.Nat.{ℕ}
 use lib.IntN.{pos, negsuc}
 use lib.Ieee.{Float, fin, binary64, toBits}
-use Rattle.field.specs.declared.Vec3.{Vec3}
 use Rattle.field.specs.Vec.{null, origin}
 use Rattle.sqrt.specs.Root.{root}
-use Rattle.network.specs.Network.{Graph, shape, graph}
-use Rattle.graph.specs.Joined.{Connected, Label}
+use Rattle.graph.specs.declared.Connectivity.the-variants.{Disconnected}
+use Rattle.graph.specs.declared.Listing.the-variants.{Parts}
+use Rattle.graph.specs.Outcome.{ConnectivityCall, ListingCall}
+use Rattle.graph.specs.Edges.{twoParts}
 use Rattle.system.specs.System.{tiny, one, meanOffset, terms, termAt}
-use Rattle.system.specs.Edges.{single, faint, pair, five, half, two, minusTiny}
-use Rattle.recover.specs.Edges.{RecoverEdges, GivesPoint}
+use Rattle.system.specs.Edges.{single, faint, pair, triple, five, half, two, minusTiny}
+use Rattle.recover.specs.Edges.{ScaleEdges}
 use Rattle.iterative.specs.Problem.{mostRounds}
-use Rattle.dense.specs.Edges.{triple}
-use Rattle.placement.specs.Routes.{submission, placement, placed, report, failingAt}
-
--- n=3, direction 0-1 weight 1, 1-2 weight 0
-abbrev pub twoParts : Graph
-twoParts = graph (shape 3 0 0 2) (0 ∷ 1 ∷ 1 ∷ 2 ∷ []) (one ∷ null ∷ [])
-
-abbrev vec : Float → Float → Float → Vec3
-vec a b c = record { x = a; y = b; z = c }
+use Rattle.placement.specs.declared.Answer.the-variants.{Accepted}
+use Rattle.placement.specs.Routes.{submission, placement, report, failingAt}
+use Rattle.placement.specs.Solved.{answerOf, camerasAfter, pointsAfter}
 
 -- Camera 0 sees point 0 with this weight and scale, on the solve program's route 3 with limit 48; the work buffer has T = 28 numbers, the outputs
--- 3 each. The solve is accepted: anchor 0, route 2, no round; camera 0 is at zero, and the point comes out as v.
-abbrev pub Solves : Float → Float → Vec3 → Type 0
-Solves w s v = (placement (submission (single w s) 3 48 28 3 3) ≡ placed (report 0 2 0) (origin ∷ [])) × GivesPoint w s v
+-- 3 each. The solve is accepted: anchor 0, route 2, no round; it leaves camera 0 at zero, and the point at (x, y, z).
+pub record Solves (w s x y z : Float) : Type 0 where
+  pub answer : answerOf (placement (submission (single w s) 3 48 28 3 3)) ≡ Accepted (report 0 2 0)
+  pub camera : (old : List Float) → camerasAfter (placement (submission (single w s) 3 48 28 3 3)) old ≡ null ∷ null ∷ null ∷ []
+  pub point : (old : List Float) → pointsAfter (single w s) (placement (submission (single w s) 3 48 28 3 3)) old ≡ x ∷ y ∷ z ∷ []
 
 pub record Edges : Type 0 where
   -- ● The case above (n=1, m=1, B=1, E=0, ray (0,0,1), weight 1, scale 0.5, old point (5,5,5)): point (0,0,2).
-  pub whole-case : Solves one half (vec null null two)
+  pub whole-case : Solves one half null null two
   -- ● With weight 0: point stays (5,5,5).
-  pub weightless : Solves null half (vec five five five)
+  pub weightless : Solves null half five five five
   -- ● Weight 1e-12, scale 1: mean offset zero, yet assembled; right side z is -1e-12, point (0,0,1).
   pub faint-mean : meanOffset faint 0 ≡ origin
   pub faint-right : termAt (terms faint) 0 .right .z ≡ minusTiny
-  pub faint-case : Solves tiny one (vec null null one)
+  pub faint-case : Solves tiny one null null one
   -- ● n=2, one direction, weight 1e300, scale 1e10: route 2 gives 9 at camera 1, route 1 with limit 1 gives 15 at row 0.
   pub diagonal-overflows : placement (submission pair 2 1 47 6 0) ≡ failingAt 9 1
   pub pivot-overflows : placement (submission pair 1 1 51 6 0) ≡ failingAt 15 0
   -- ● n=3, cameras 1 and 2 see point 0 with weight 1e200, camera 0 sees point 1 with 1e201, scales 1, limit 2: route 1 gives 16 at row 1.
   pub entry-overflows : placement (submission triple 1 2 90 9 6) ≡ failingAt 16 1
-  -- ● Scales: target x = 2 gives 0.5; -2 gives 1e-5; 2^-20 keeps; 2^-19 gives 524288. Besides, the points of the first three rows.
-  pub recovered : RecoverEdges
-  -- ● n=3, direction 0-1 weight 1, 1-2 weight 0: not connected, labels 0 0 2.
-  pub not-connected : Connected twoParts → ⊥
-  pub labels : Label twoParts 0 0 × Label twoParts 1 0 × Label twoParts 2 2
+  -- ● Scales: target x = 2 gives 0.5; -2 gives 1e-5; 2^-20 keeps; 2^-19 gives 524288.
+  pub scales : ScaleEdges
+  -- ● n=3, direction 0-1 weight 1, 1-2 weight 0: not connected, labels 0 0 2. Whatever the three node numbers and the three labels were before:
+  -- the calls refuse nothing, answer so, count two parts, and leave the node numbers zero. (They can answer nothing else: graph's proofs/Unique.)
+  pub not-connected : (a b c : ℕ) → ConnectivityCall twoParts Disconnected (a ∷ b ∷ c ∷ []) (0 ∷ 0 ∷ 0 ∷ [])
+  pub labels : (a b c x y z : ℕ) → ListingCall twoParts (Parts 2) (a ∷ b ∷ c ∷ []) (0 ∷ 0 ∷ 0 ∷ []) (x ∷ y ∷ z ∷ []) (0 ∷ 0 ∷ 2 ∷ [])
   -- ● Root of 2^-1074 is 2^-537; of 2 has bits 3FF6A09E667F3BCD.
   pub root-of-least : root binary64 (fin false 1 (negsuc 1073)) ≡ fin false 1 (negsuc 536)
   pub root-of-two : toBits binary64 (root binary64 (fin false 1 (pos 1))) ≡ 0x3FF6_A09E_667F_3BCD

@@ -124,11 +124,6 @@ module _ {ℓ} {A : Type ℓ} where
   take-write n l p [] h = refl
   take-write n l p (x ∷ xs) h = take-set-le n (write l (suc p) xs) p x h ∙ take-write n l (suc p) xs (omega arith)
 
-  pub take-inside : (n : ℕ) (l : List A) (p : ℕ) (xs : List A) → p + length xs ≤ n → take n (write l p xs) ≡ write (take n l) p xs
-  unfolding write
-  take-inside n l p [] h = refl
-  take-inside n l p (x ∷ xs) h = take-set-lt n (write l (suc p) xs) p x (omega arith) ∙ ap (λ (t : List A). set t p x) (take-inside n l (suc p) xs (omega arith))
-
   pub drop-write : (m : ℕ) (l : List A) (p : ℕ) (xs : List A) → p + length xs ≤ m → drop m (write l p xs) ≡ drop m l
   unfolding write
   drop-write m l p [] h = refl
@@ -210,9 +205,6 @@ module _ {ℓ} {A : Type ℓ} where
   fill-more n v [] l = absurd (omega arith)
   fill-more zero v (x ∷ d) l = refl
   fill-more (suc n) v (x ∷ d) l = ap (λ (t : List A). v ∷ t) (fill-more n v d (omega arith))
-
-  pub length-filled : (n : ℕ) (v : A) (d : List A) → n ≤ length d → length (replicate n v ++ drop n d) ≡ length d
-  length-filled n v d h = simp (length-append, length-replicate, length-drop) (omega arith)
 
   pub filled-write : (n : ℕ) (v : A) (d : List A) → n ≤ length d → replicate n v ++ drop n d ≡ write d 0 (replicate n v)
   filled-write n v d h =
@@ -440,10 +432,6 @@ module _ {A : Type 0} (K : Cell A) (W : Lawful K) where
   unfolding store
   drop-store m l p f h = drop-write m l p (flat K f) (omega (arith, length-flat f))
 
-  pub store-front : (l : List Float) (f : List A) → K .width * length f ≤ length l → store K l 0 f ≡ flat K f ++ drop (K .width * length f) l
-  unfolding store
-  store-front l f h = rw (← length-flat f) (write-front l (flat K f) (omega (arith, length-flat f)))
-
   pub store-whole : (l : List Float) (f : List A) → length l ≡ K .width * length f → store K l 0 f ≡ flat K f
   unfolding store
   store-whole l f h = write-whole l (flat K f) (h ∙ sym (length-flat f))
@@ -472,9 +460,6 @@ module _ {A B : Type 0} (J : Cell A) (K : Cell B) (W : Lawful K) where
       let s : J .width * i + J .width ≤ J .width * n = slot (J .width) i n k in
       ⊎-elim (λ (b : p + a ≤ q). inl (omega arith)) (λ (b : q + J .width * n ≤ p). inr (omega arith))
 
-  pub load-put-apart : (l : List Float) (p : ℕ) (b : B) (q n : ℕ) → Apart p (K .width) q (J .width * n) → load J (put K l p b) q n ≡ load J l q n
-  load-put-apart l p b q n h = load-ext J (put K l p b) l q q n (λ i k. get-put-apart l p b (q + J .width * i) (slot-apart p (K .width) q n i k h))
-
   pub load-store-apart : (l : List Float) (p : ℕ) (f : List B) (q n : ℕ) → Apart p (K .width * length f) q (J .width * n) → load J (store K l p f) q n ≡ load J l q n
   load-store-apart l p f q n h = load-ext J (store K l p f) l q q n (λ i k. get-store-apart l p f (q + J .width * i) (slot-apart p (K .width * length f) q n i k h))
 
@@ -494,14 +479,6 @@ module _ {A B : Type 0} (J : Cell A) (K : Cell B) (W : Lawful K) where
       let a : load J (store K l p x) q k ≡ load J l q k = load-store-apart l p x q k (subst (λ (j : ℕ). Apart p (K .width * j) q (J .width * k)) (sym h) apart) in
       let b : load K (store K l p x) p n ≡ x = load-store K W l p x n h fits in
       rw (e, a, b) (store-store K W l p x (F (load J l q k) x) (h ∙ sym size))
-
-  -- the same for a loop of steps: one step more
-  pub step-more : (step : List A → ℕ → List B → List B) (l m : List Float) (q k p n i : ℕ) (x : List B) → let y = upto (step (load J l q k)) i x in
-      m ≡ store K l p y → length y ≡ n → Apart p (K .width * n) q (J .width * k) → p + K .width * n ≤ length l → length (step (load J l q k) i y) ≡ n →
-      store K m p (step (load J m q k) i (load K m p n)) ≡ store K l p (upto (step (load J l q k)) (suc i) x)
-  step-more step l m q k p n i x e h apart fits size =
-      through (λ a y. step a i y) l m q k p n (upto (step (load J l q k)) i x) e h apart fits size
-      ∙ ap (store K l p) (sym (upto-suc (step (load J l q k)) i x))
 
 module _ {A B : Type 0} (J : Cell A) (U : Lawful J) (K : Cell B) (W : Lawful K) where
   pub put-comm : (l : List Float) (p : ℕ) (a : A) (q : ℕ) (b : B) → Apart p (J .width) q (K .width) → put K (put J l p a) q b ≡ put J (put K l q b) p a
@@ -541,16 +518,6 @@ flat-number (a ∷ f) = ap (λ (t : List Float). a ∷ t) (flat-number f)
 pub store-number : (l : List Float) (p : ℕ) (f : List Float) → store number l p f ≡ write l p f
 unfolding store
 store-number l p f = rw flat-number
-
-pub load-number : (l : List Float) (p n : ℕ) → p + n ≤ length l → load number l p n ≡ part l p n
-load-number l p n h =
-    let a : length (load number l p n) ≡ n = length-load number l p n in
-    let b : length (part l p n) ≡ n = length-part l p n h in
-    ext-getD nan (load number l p n) (part l p n) (a ∙ sym b)
-    (λ i k.
-    at-load number l p n i nan (omega arith)
-    ∙ number-at l p i
-    ∙ sym (getD-part l p n i nan (omega arith)))
 
 pub get-vector : (l : List Float) (p : ℕ) → get vector l p ≡ record { x = getD l p nan; y = getD l (p + 1) nan; z = getD l (p + 2) nan }
 unfolding get

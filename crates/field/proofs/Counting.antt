@@ -139,11 +139,6 @@ lowest-none p (suc n) h = lowest-more p n (lowest-none p n (λ k l. h k (omega a
 pub lowest-is : (p : ℕ → Bool) (i n : ℕ) → p i ≡ true → i < n → ((k : ℕ) → k < i → p k ≡ false) → lowest p n ≡ At i
 lowest-is p i n t l h = lowest-found p i n (lowest-none p i h) t l
 
-pub lowest-ext : (p q : ℕ → Bool) (n : ℕ) → ((k : ℕ) → k < n → p k ≡ q k) → lowest p n ≡ lowest q n
-unfolding lowest
-lowest-ext p q zero h = refl
-lowest-ext p q (suc n) h = rw (lowest-ext p q n (λ k l. h k (omega arith)), h n (omega arith))
-
 -- what an answer says of the places
 abbrev Told : (ℕ → Bool) → ℕ → Place → Type 0
 Told p n (At i) = (p i ≡ true) × (i < n) × ((k : ℕ) → k < i → p k ≡ false)

@@ -23,11 +23,3 @@ on-minus k a b = on-each k (λ j. sub binary64 (on j a) (on j b))
 pub on-scale : (k : Axis) (a : Vec3) (s : Float) → on k (scale a s) ≡ mul binary64 (on k a) s
 unfolding scale
 on-scale k a s = on-each k (λ j. mul binary64 (on j a) s)
-
-pub on-over : (k : Axis) (a : Vec3) (s : Float) → on k (over a s) ≡ div binary64 (on k a) s
-unfolding over
-on-over k a s = on-each k (λ j. div binary64 (on j a) s)
-
--- two vectors that agree on each axis are equal
-pub vec-ext : (a b : Vec3) → ((k : Axis) → on k a ≡ on k b) → a ≡ b
-vec-ext a b h = λ i. record { x = h X i; y = h Y i; z = h Z i }

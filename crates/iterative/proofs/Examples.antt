@@ -3,27 +3,22 @@ use mathlib.Core.Path.{_≡_, refl}
 use mathlib.Core.List.{List, [], _∷_}
 use mathlib.Core.Bool.{false}
 use Prim.Native.Nat.{ℕ}
-use lib.Ieee.{binary64, ofBits, add, sub, mul, div, lt, le, isNan}
-use Rattle.double.specs.Double.{greater, magnitude}
-use Rattle.double.specs.Sums.{total}
+use lib.Ieee.{binary64, ofBits}
 use Rattle.sqrt.specs.Root.{root}
 use Rattle.field.specs.declared.Vec3.{Vec3}
-use Rattle.field.specs.Vec.{null, origin, plus, minus, scale, over}
-use Rattle.field.specs.Count.{upto, field, lowest}
-use Rattle.field.specs.Buffer.{get}
-use Rattle.network.specs.Lists.{none}
-use Rattle.system.specs.System.{effectiveIn, pullIn, weightSum, pullSum, meanOf, sumsFrom, one, sees, departs, arrives, assembleRow, assembleRows, greatest, anchorOf, addBearing, addDirection}
+use Rattle.field.specs.Vec.{null, origin, scale}
+use Rattle.system.specs.System.{one}
 use Rattle.iterative.specs.Problem.{times, dotStep, fieldDot, mostRounds}
 use Rattle.iterative.specs.Method.{State, accepted, refused, boundOf, allowedOf, startsActive, staysActive, badCurvature, badProduct, badResidual, quotient, stepped, searchStep}
 use Rattle.iterative.specs.Method.{preconditionedEntry, steppedEntry, searchEntry, differenceEntry, squareSum, start, badDiagonal, moved, redirected, round, rounds, residualOf, solution}
 use Rattle.operator.specs.Operator.{changed, times as repeated, ridgeEntry, bearingStep, spanPass, pointStep, directionStep, reducedBy}
 use Rattle.iterative.specs.Reduced.{diagonalOf, rightEntry, problem, problemBy}
+use Rattle.system.proofs.Computing.{assembly}
 use Rattle.system.specs.Edges.{directed, half, pair, single}
 
 -- to unfold this is to unfold what a solution is computed with
 unfoldable pub computing : Unit {0}
-unfolding upto field lowest get none total isNan greater magnitude root ofBits add sub mul div lt le plus minus scale over
-    effectiveIn pullIn weightSum pullSum meanOf sumsFrom sees departs arrives addBearing addDirection assembleRow assembleRows greatest anchorOf
+unfolding assembly root
     times dotStep fieldDot mostRounds boundOf allowedOf startsActive staysActive badCurvature badProduct badResidual quotient stepped searchStep
     preconditionedEntry steppedEntry searchEntry differenceEntry squareSum start badDiagonal moved redirected round rounds residualOf solution
     changed repeated ridgeEntry bearingStep spanPass pointStep directionStep reducedBy diagonalOf rightEntry problemBy

@@ -19,7 +19,7 @@ use Rattle.network.specs.declared.Shape.{Shape}
 use Rattle.system.specs.System.{Weights, anchor, terms, weightsOf}
 use Rattle.system.specs.Work.{appliedAt, matrixAt, positionsAt, residualAt, rightAt, searchAt, term, termPlace}
 use Rattle.system.specs.declared.CameraTerm.{CameraTerm}
-use Rattle.system.specs.inner.Formed.{Segments, weightsIn}
+use Rattle.system.specs.inner.Formed.{Segments, positionsIn, weightsIn}
 use Rattle.operator.proofs.Buffered.{reduced-held, weights-kept}
 use Rattle.operator.proofs.OperatorLaws.{by-length}
 use Rattle.operator.specs.Operator.{reducedBy}
@@ -38,7 +38,7 @@ use Rattle.iterative.specs.declared.Round.{Round}
 use Rattle.iterative.specs.declared.Step.{Step}
 use Rattle.iterative.specs.declared.Step.the-variants.{Ended, Failed, Running}
 use Rattle.iterative.specs.inner.Solver.{Concluded, FieldsFit, Iterated, IterativeSolved, Opened, PositionsKept, Preconditioned, Settled, Started, SystemKept, Tested, answerOf, begun}
-use Rattle.iterative.specs.inner.Solver.{diagonalIn, diagonalNumber, firstRound, positionsIn, problemIn, rightSums, roundsFrom, runIn, stateIn}
+use Rattle.iterative.specs.inner.Solver.{diagonalIn, diagonalNumber, firstRound, problemIn, rightSums, roundsFrom, runIn, stateIn}
 
 -- ---- the start
 

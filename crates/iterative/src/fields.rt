@@ -54,7 +54,7 @@ fn dot_step(work: &[f64], n: usize, anchor: usize, p: usize, q: usize, i: usize,
     sum.add(v)
 }
 
-// For each component the sum of the products of the fields at p and q, over all cameras but the anchor: `reduced_dot`.
+// For each component the sum of the products of the fields at p and q, over all cameras but the anchor: the Rust's `component_dot`.
 pub(crate) fn field_dot(work: &[f64], n: usize, anchor: usize, p: usize, q: usize) -> Vec3
     requires { ⌜ (p + 3 * n ≤ length (now work)) × (q + 3 * n ≤ length (now work)) ⌝ }
     ensures { λ r. ⌜ r ≡ fieldDot n anchor (load vector (now (work .entry)) p n) (load vector (now (work .entry)) q n) ⌝ }

@@ -34,7 +34,7 @@ pub fn target_of(s: Shape, ends: &[usize], r: usize) -> usize
     ends[2 * r + 1]
 }
 
-// The places of the point lists that point p has.
+// The places of the point lists that point p has: the Rust's `point_bearing_range`.
 pub fn span_of(s: Shape, offsets: &[usize], p: usize) -> Span
     requires { ⌜ OffsetsSound (s .points) (s .bearings) (now offsets) ⌝ }
     requires { ⌜ p < s .points ⌝ }

@@ -10,22 +10,15 @@ use Rattle.field.proofs.Buffers.{at-load, length-load, load-store, store-store,
 use Rattle.field.proofs.Counting.{upto-suc}
 use Rattle.field.specs.Buffer.{load, store, vector}
 use Rattle.field.specs.Count.{upto}
-use Rattle.field.specs.Vec.{minus, origin, over, plus, scale}
+use Rattle.field.specs.Vec.{origin, over, plus}
 use Rattle.field.specs.declared.Vec3.{Vec3}
 use Rattle.network.specs.Network.{firstEnd}
 use Rattle.network.specs.declared.Shape.{Shape}
 use Rattle.operator.proofs.OperatorLaws.{changed-length}
-use Rattle.operator.specs.Operator.{bearingStep, gains, listStep, meanStep, spanPass, times}
-use Rattle.operator.specs.inner.Applied.{Seen, applied}
+use Rattle.operator.specs.Operator.{bearingStep, listStep, meanStep, spanPass, times}
+use Rattle.operator.specs.inner.Applied.{Seen, added, applied, pushed}
 use Rattle.operator.specs.declared.short.Sight.{Sight}
 use Rattle.system.specs.inner.Formed.{weightsIn}
-
--- a sum with a sight's camera added by its weight, and a field whose camera gains by it
-abbrev added : Sight → Vec3 → Vec3
-added s v = plus v (scale (s .at) (s .weight))
-
-abbrev pushed : ℕ → Vec3 → Sight → List Vec3 → List Vec3
-pushed a u s y = gains a (s .camera) (scale (minus (s .at) u) (s .weight)) y
 
 -- ---- a field that gains, sight by sight
 

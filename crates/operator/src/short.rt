@@ -10,11 +10,11 @@ use system::reads::row_weight;
 ghost use mathlib.Core.Path.{_≡_};
 ghost use Prim.Native.Nat.{_+_, _*_, _<_, _≤_};
 ghost use lib.ListN.{length, getD};
-ghost use Rattle.field.specs.Vec.{origin, plus, minus, scale, over};
+ghost use Rattle.field.specs.Vec.{origin, minus, scale, over};
 ghost use Rattle.field.specs.Buffer.{load, store, vector};
-ghost use Rattle.operator.specs.Operator.{gains, spanPass};
+ghost use Rattle.operator.specs.Operator.{spanPass};
 ghost use Rattle.network.specs.inner.Sound.{EndsSound, ListedSound};
-ghost use Rattle.operator.specs.inner.Applied.{PlacesIn, FieldsIn, Seen, applied};
+ghost use Rattle.operator.specs.inner.Applied.{PlacesIn, FieldsIn, Seen, added, applied, pushed};
 
 // What a point has of one bearing: its camera, its effective weight, and the camera's vector.
 pub(crate) struct Sight {
@@ -26,7 +26,7 @@ pub(crate) struct Sight {
 impl Sight {
     // A sum with camera × weight added.
     fn added(self, sum: Vec3) -> Vec3
-        ensures { λ r. ⌜ r ≡ plus sum (scale (self .at) (self .weight)) ⌝ }
+        ensures { λ r. ⌜ r ≡ added self sum ⌝ }
     {
         sum.add(self.at.mul(self.weight))
     }
@@ -58,7 +58,7 @@ fn seen(s: Shape, ends: &[usize], listed: &[usize], work: &[f64], from: usize, k
 
 // The sum of two cameras, by weight.
 fn two_sum(s0: Sight, s1: Sight) -> Vec3
-    ensures { λ r. ⌜ r ≡ plus (plus origin (scale (s0 .at) (s0 .weight))) (scale (s1 .at) (s1 .weight)) ⌝ }
+    ensures { λ r. ⌜ r ≡ added s1 (added s0 origin) ⌝ }
 {
     s1.added(s0.added(zero()))
 }
@@ -66,8 +66,7 @@ fn two_sum(s0: Sight, s1: Sight) -> Vec3
 // The camera of a sight gains (camera - u) × weight.
 fn push(work: &mut [f64], n: usize, anchor: usize, into: usize, s: Sight, u: Vec3)
     requires { ⌜ (n ≤ 4096) × (s .camera < n) × (into + 3 * n ≤ length (now work)) ⌝ }
-    ensures { λ r. ⌜ now (work .exit) ≡ store vector (now (work .entry)) into
-        (gains anchor (s .camera) (scale (minus (s .at) u) (s .weight)) (load vector (now (work .entry)) into n)) ⌝ }
+    ensures { λ r. ⌜ now (work .exit) ≡ store vector (now (work .entry)) into (pushed anchor u s (load vector (now (work .entry)) into n)) ⌝ }
 {
     gain(work, n, anchor, into, s.camera, s.pull(u));
 }
@@ -77,8 +76,7 @@ fn two_gain(work: &mut [f64], n: usize, anchor: usize, into: usize, s0: Sight, s
     requires { ⌜ (n ≤ 4096) × (into + 3 * n ≤ length (now work)) ⌝ }
     requires { ⌜ (s0 .camera < n) × (s1 .camera < n) ⌝ }
     ensures { λ r. ⌜ now (work .exit) ≡ store vector (now (work .entry)) into
-        (gains anchor (s1 .camera) (scale (minus (s1 .at) u) (s1 .weight))
-        (gains anchor (s0 .camera) (scale (minus (s0 .at) u) (s0 .weight)) (load vector (now (work .entry)) into n))) ⌝ }
+        (pushed anchor u s1 (pushed anchor u s0 (load vector (now (work .entry)) into n))) ⌝ }
 {
     push(work, n, anchor, into, s0, u);
     push(work, n, anchor, into, s1, u);
@@ -88,10 +86,8 @@ fn two_gain(work: &mut [f64], n: usize, anchor: usize, into: usize, s0: Sight, s
 fn two_step(work: &mut [f64], n: usize, anchor: usize, into: usize, s0: Sight, s1: Sight, w: f64)
     requires { ⌜ (n ≤ 4096) × (into + 3 * n ≤ length (now work)) ⌝ }
     requires { ⌜ (s0 .camera < n) × (s1 .camera < n) ⌝ }
-    ensures { λ r. ⌜ (let u = over (plus (plus origin (scale (s0 .at) (s0 .weight))) (scale (s1 .at) (s1 .weight))) w in
-        now (work .exit) ≡ store vector (now (work .entry)) into
-        (gains anchor (s1 .camera) (scale (minus (s1 .at) u) (s1 .weight))
-        (gains anchor (s0 .camera) (scale (minus (s0 .at) u) (s0 .weight)) (load vector (now (work .entry)) into n)))) ⌝ }
+    ensures { λ r. ⌜ (let u = over (added s1 (added s0 origin)) w in now (work .exit) ≡ store vector (now (work .entry)) into
+        (pushed anchor u s1 (pushed anchor u s0 (load vector (now (work .entry)) into n)))) ⌝ }
 {
     let u = two_sum(s0, s1).div(w);
     two_gain(work, n, anchor, into, s0, s1, u);
@@ -110,11 +106,8 @@ fn three_step(
 )
     requires { ⌜ (n ≤ 4096) × (into + 3 * n ≤ length (now work)) ⌝ }
     requires { ⌜ (s0 .camera < n) × (s1 .camera < n) × (s2 .camera < n) ⌝ }
-    ensures { λ r. ⌜ (let u = over (plus (plus (plus origin (scale (s0 .at) (s0 .weight))) (scale (s1 .at) (s1 .weight)))
-        (scale (s2 .at) (s2 .weight))) w in now (work .exit) ≡ store vector (now (work .entry)) into
-        (gains anchor (s2 .camera) (scale (minus (s2 .at) u) (s2 .weight))
-        (gains anchor (s1 .camera) (scale (minus (s1 .at) u) (s1 .weight))
-        (gains anchor (s0 .camera) (scale (minus (s0 .at) u) (s0 .weight)) (load vector (now (work .entry)) into n))))) ⌝ }
+    ensures { λ r. ⌜ (let u = over (added s2 (added s1 (added s0 origin))) w in now (work .exit) ≡ store vector (now (work .entry)) into
+        (pushed anchor u s2 (pushed anchor u s1 (pushed anchor u s0 (load vector (now (work .entry)) into n))))) ⌝ }
 {
     let u = s2.added(two_sum(s0, s1)).div(w);
     two_gain(work, n, anchor, into, s0, s1, u);
@@ -135,13 +128,8 @@ fn four_step(
 )
     requires { ⌜ (n ≤ 4096) × (into + 3 * n ≤ length (now work)) ⌝ }
     requires { ⌜ (s0 .camera < n) × (s1 .camera < n) × (s2 .camera < n) × (s3 .camera < n) ⌝ }
-    ensures { λ r. ⌜ (let u = over (plus (plus (plus (plus origin (scale (s0 .at) (s0 .weight))) (scale (s1 .at) (s1 .weight)))
-        (scale (s2 .at) (s2 .weight))) (scale (s3 .at) (s3 .weight))) w in
-        now (work .exit) ≡ store vector (now (work .entry)) into
-        (gains anchor (s3 .camera) (scale (minus (s3 .at) u) (s3 .weight))
-        (gains anchor (s2 .camera) (scale (minus (s2 .at) u) (s2 .weight))
-        (gains anchor (s1 .camera) (scale (minus (s1 .at) u) (s1 .weight))
-        (gains anchor (s0 .camera) (scale (minus (s0 .at) u) (s0 .weight)) (load vector (now (work .entry)) into n)))))) ⌝ }
+    ensures { λ r. ⌜ (let u = over (added s3 (added s2 (added s1 (added s0 origin)))) w in now (work .exit) ≡ store vector (now (work .entry)) into
+        (pushed anchor u s3 (pushed anchor u s2 (pushed anchor u s1 (pushed anchor u s0 (load vector (now (work .entry)) into n)))))) ⌝ }
 {
     let u = s3.added(s2.added(two_sum(s0, s1))).div(w);
     two_gain(work, n, anchor, into, s0, s1, u);

@@ -24,12 +24,11 @@ use Rattle.network.proofs.Verdicts.{halts-in, passes-in, stage-passed}
 use Rattle.network.proofs.Sound.{counts-sound, lengths-fit, network-fits, network-sound, route-sound}
 use Rattle.system.specs.System.{anchor, anchorOf, sumsFrom, terms, termsBy, weightsOf}
 use Rattle.system.specs.Work.{matrixAt, term, termPlace, workLength}
-use Rattle.system.specs.inner.Formed.{Formed, RowsThere, Segments, weightsIn}
+use Rattle.system.specs.inner.Formed.{Formed, RowsThere, Segments, positionsIn, weightsIn}
 use Rattle.recover.specs.Recover.{pointsBy, pointsOf}
 use Rattle.recover.proofs.Points.{points-recovered}
 use Rattle.iterative.specs.Method.{Ending, accepted, refused, solution}
 use Rattle.iterative.specs.Reduced.{problem, problemBy}
-use Rattle.iterative.specs.inner.Solver.{positionsIn}
 use Rattle.iterative.specs.Accepted.{Accepted as Meaning}
 use Rattle.iterative.proofs.Acceptance.{accepted-network}
 use Rattle.iterative.proofs.Solving.{problem-held}
@@ -39,11 +38,11 @@ use Rattle.dense.proofs.Solving.{dense-held}
 use Rattle.placement.specs.declared.Answer.{Answer}
 use Rattle.placement.specs.declared.Answer.the-variants.{Refused, Accepted}
 use Rattle.placement.specs.declared.Report.{Report}
-use Rattle.placement.specs.Routes.{Submission, Placement, rejected, failing, placed, report, failingAt, submission, byDense, denseOr, byIterative, afterRefusal, routedBy, routed, buffersFit}
+use Rattle.placement.specs.Routes.{Submission, Placement, rejected, failing, placed, report, failingAt, submission, denseOr, byIterative, fallBack, routedBy, routed, buffersFit}
 use Rattle.placement.specs.Routes.{submissionTests, submissionVerdict, checked, placement}
 use Rattle.placement.specs.Solved.{answerOf, camerasAfter, pointsAfter, workAfter, Solved}
 use Rattle.placement.specs.inner.Routing.{Checked, Placed, Ran, RouteReady, Routed, denseIn, iterativeIn, outcome}
-use Rattle.placement.proofs.Routing.{surplus-more, work-room}
+use Rattle.placement.proofs.Routing.{route-cases, surplus-more, work-room}
 
 -- ---- the checks
 
@@ -185,23 +184,20 @@ zeroed-dense a r (done c) true k i t l = refl
 zeroed-dense a r (stopped j p) true k i t l = refl
 zeroed-dense a r y false k i t l = refl
 
-zeroed-after : (a d limit : ℕ) (y : Result (List Vec3)) (k i : ℕ) (b : Bool) → Zeroed (cond b (failingAt k i) (denseOr (leb d limit) a 3 y (failingAt k i)))
-zeroed-after a d limit y k i true = λ t l. refl
-zeroed-after a d limit y k i false = zeroed-dense a 3 y (leb d limit) k i
-
 zeroed-iterative : (a : ℕ) (x : Ending) (f : ℕ → ℕ → Placement) → ((k i : ℕ) → Zeroed (f k i)) → Zeroed (byIterative a x f)
 zeroed-iterative a (accepted s) f h = λ t l. refl
 zeroed-iterative a (refused k i) f h = h k i
 
-zeroed-routed : (net : Network) (route limit : ℕ) → Zeroed (routed net route limit)
-unfolding routed routedBy
-zeroed-routed net route limit = go (eqb route 1)
-  where
-    go : (b : Bool) → Zeroed (cond b (denseOr (leb (net .shape .cameras - 1) limit) (anchor net) 1 (denseSolution net) (failingAt 14 (net .shape .cameras - 1)))
-        (byIterative (anchor net) (solution (problem net)) (afterRefusal (anchor net) (net .shape .cameras - 1) route limit (denseSolution net))))
-    go true = zeroed-dense (anchor net) 1 (denseSolution net) (leb (net .shape .cameras - 1) limit) 14 (net .shape .cameras - 1)
-    go false = zeroed-iterative (anchor net) (solution (problem net)) (afterRefusal (anchor net) (net .shape .cameras - 1) route limit (denseSolution net))
-        (λ k i. zeroed-after (anchor net) (net .shape .cameras - 1) limit (denseSolution net) k i (eqb route 2))
+zeroed-routed : (net : Network) (route limit : ℕ) → badRoute route limit ≡ false → Zeroed (routed net route limit)
+unfolding routed
+zeroed-routed net route limit e =
+    let a = anchor net in
+    let d = net .shape .cameras - 1 in
+    let x = solution (problem net) in
+    let y = denseSolution net in
+    route-cases a d limit x y Zeroed route e (zeroed-dense a 1 y (leb d limit) 14 d)
+    (zeroed-iterative a x failingAt (λ k i t l. refl))
+    (zeroed-iterative a x (fallBack a d limit y) (λ k i. zeroed-dense a 3 y (leb d limit) k i))
 
 -- ---- demand 3
 
@@ -220,10 +216,6 @@ other-dense : (a r : ℕ) (y : Result (List Vec3)) (b : Bool) (k i : ℕ) → (r
 other-dense a r (done c) true k i h b j e = h (ap routeOf e)
 other-dense a r (stopped u v) true k i h b j e = other-failing u v b j e
 other-dense a r y false k i h b j e = other-failing k i b j e
-
-other-after : (a d limit : ℕ) (y : Result (List Vec3)) (k i : ℕ) (b : Bool) → Other (cond b (failingAt k i) (denseOr (leb d limit) a 3 y (failingAt k i)))
-other-after a d limit y k i true = other-failing k i
-other-after a d limit y k i false = other-dense a 3 y (leb d limit) k i (λ e. omega arith)
 
 module _ (net : Network) (N : NetworkSound net) where
   abbrev d : ℕ
@@ -253,15 +245,16 @@ module _ (net : Network) (N : NetworkSound net) where
       (sym (ap anchorIn e), rw b (subst (λ (j : ℕ). Meaning (problem net) (s .positions) j) c M))
   meant-iterative (refused j i) q f h old a k e = meant-other (f j i) (h j i) old a k e
 
-  meant-routed : (route limit : ℕ) → Meant (routed net route limit)
-  unfolding routed routedBy
-  meant-routed route limit = go (eqb route 1)
-    where
-      go : (b : Bool) → Meant (cond b (denseOr (leb d limit) (anchor net) 1 (denseSolution net) (failingAt 14 d))
-          (byIterative (anchor net) (solution (problem net)) (afterRefusal (anchor net) d route limit (denseSolution net))))
-      go true = meant-other (denseOr (leb d limit) (anchor net) 1 (denseSolution net) (failingAt 14 d)) (other-dense (anchor net) 1 (denseSolution net) (leb d limit) 14 d (λ e. omega arith))
-      go false = meant-iterative (solution (problem net)) refl (afterRefusal (anchor net) d route limit (denseSolution net))
-          (λ k i. other-after (anchor net) d limit (denseSolution net) k i (eqb route 2))
+  meant-routed : (route limit : ℕ) → badRoute route limit ≡ false → Meant (routed net route limit)
+  unfolding routed
+  meant-routed route limit e =
+      let a = anchor net in
+      let x = solution (problem net) in
+      let y = denseSolution net in
+      route-cases a d limit x y Meant route e
+      (meant-other (denseOr (leb d limit) a 1 y (failingAt 14 d)) (other-dense a 1 y (leb d limit) 14 d (λ z. omega arith)))
+      (meant-iterative x refl failingAt other-failing)
+      (meant-iterative x refl (fallBack a d limit y) (λ k i. other-dense a 3 y (leb d limit) k i (λ z. omega arith)))
 
 -- ---- the solve
 
@@ -290,6 +283,7 @@ module _ (i : Submission) (v : Verdict) (work cameras points : List Float) (e : 
   unfolding placement problemBy
   solve-placed r t mid work' cameras' points' h P w z =
       let y = routed (i .net) (i .route) (i .limit) in
+      let C = submission-sound i v e h .checked in
       let q : y ≡ placement i = ap (λ (u : Verdict). checked u y) (sym h ∙ e) in
       let m : work' ≡ replicate T null ++ drop T mid = rw w at z in
       let s : replicate T null ++ drop T mid ≡ replicate T null ++ drop T work = ap (λ (u : List Float). replicate T null ++ u) (P .surplus) in
@@ -297,6 +291,6 @@ module _ (i : Submission) (v : Verdict) (work cameras points : List Float) (e : 
         answer = P .answer ∙ ap answerOf q;
         camerasOut = P .camerasOut ∙ ap (λ (u : Placement). camerasAfter u cameras) q;
         pointsOut = P .pointsOut ∙ ap (λ (u : Placement). pointsAfter (i .net) u points) q;
-        workOut = m ∙ s ∙ sym (zeroed-routed (i .net) (i .route) (i .limit) T work) ∙ ap (λ (u : Placement). workAfter T u work) q;
-        meaning = λ a k f. rw (P .camerasOut) (meant-routed (i .net) (submission-sound i v e h .checked .sound) (i .route) (i .limit) cameras a k (sym (P .answer) ∙ f));
+        workOut = m ∙ s ∙ sym (zeroed-routed (i .net) (i .route) (i .limit) (C .legal) T work) ∙ ap (λ (u : Placement). workAfter T u work) q;
+        meaning = λ a k f. rw (P .camerasOut) (meant-routed (i .net) (C .sound) (i .route) (i .limit) (C .legal) cameras a k (sym (P .answer) ∙ f));
       }

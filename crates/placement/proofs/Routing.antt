@@ -1,14 +1,14 @@
 -- How the answers of the dense and of the iterative solve make those of the routes, from what the calls ensure. Assumes nothing.
-use Prim.Native.Nat.{ℕ, _+_, _-_, _≤_, _<_}
+use Prim.Native.Nat.{ℕ, zero, suc, _+_, _-_, _≤_, _<_}
 use mathlib.Core.Path.{_≡_, refl, sym, ap, ap₂, _∙_}
 use mathlib.Core.List.{List}
-use mathlib.Core.Bool.{false}
+use mathlib.Core.Bool.{false, true, true≢false}
 use native.Mathlib.Omega.{arith}
 use lib.Dec.{leb}
 use lib.ListN.{length, drop}
 use lib.Seq.{drop-drop}
 use lib.Ieee.{Float}
-use borrow.Author.Tests.{eq-eqb, le-leb, le-ltb, lt-leb, ne-eqb}
+use borrow.Author.Tests.{eq-eqb, le-leb, le-ltb, lt-leb, lt-ltb, ne-eqb}
 use Rattle.field.specs.declared.Vec3.{Vec3}
 use Rattle.network.specs.declared.Refusal.{Refusal}
 use Rattle.network.specs.declared.Shape.{Shape}
@@ -17,7 +17,7 @@ use Rattle.network.specs.Refusals.{badRoute, denseRows}
 use Rattle.system.specs.System.{Weights}
 use Rattle.system.specs.Work.{matrixAt, term, weightsAt, workEnd, workLength}
 use Rattle.system.specs.declared.CameraTerm.{CameraTerm}
-use Rattle.system.specs.inner.Formed.{Segments, weightsIn}
+use Rattle.system.specs.inner.Formed.{Segments, positionsIn, weightsIn}
 use Rattle.system.proofs.Segments.{work-length-is}
 use Rattle.operator.proofs.Buffered.{weights-kept}
 use Rattle.iterative.specs.declared.Outcome.{Outcome}
@@ -26,7 +26,7 @@ use Rattle.iterative.specs.Method.{Ending, State, accepted, refused, solution}
 use Rattle.iterative.specs.Problem.{Problem}
 use Rattle.iterative.specs.Reduced.{problemBy}
 use Rattle.field.specs.Buffer.{load}
-use Rattle.iterative.specs.inner.Solver.{IterativeSolved, Outside, answerOf, positionsIn}
+use Rattle.iterative.specs.inner.Solver.{IterativeSolved, Outside, answerOf}
 use Rattle.iterative.proofs.Kept.{segments-outside}
 use Rattle.cholesky.specs.declared.Solve.{Solve}
 use Rattle.cholesky.specs.declared.Solve.the-variants.{Done, Stopped}
@@ -36,8 +36,8 @@ use Rattle.dense.specs.inner.Held.{DenseSolved}
 use Rattle.dense.proofs.Solving.{segments-kept}
 use Rattle.placement.specs.declared.Answer.{Answer}
 use Rattle.placement.specs.declared.Answer.the-variants.{Refused, Accepted}
-use Rattle.placement.specs.Routes.{Placement, placed, failing, failingAt, report, byDense, denseOr, byIterative, afterRefusal, routedBy}
-use Rattle.placement.specs.inner.Routing.{RouteReady, Routed, denseIn, iterativeIn, outcome}
+use Rattle.placement.specs.Routes.{Placement, placed, failing, failingAt, report, byDense, denseOr, byIterative, fallBack, routedBy}
+use Rattle.placement.specs.inner.Routing.{RouteReady, Routed, afterRefusal, denseIn, iterativeIn, outcome}
 
 -- ---- the length of the work buffer
 
@@ -166,16 +166,41 @@ module _ (s : Shape) (ends offsets listed : List ℕ) (a route limit : ℕ) (l l
 
 -- ---- the routes
 
+no-fourth : (k limit : ℕ) → badRoute (suc (suc (suc (suc k)))) limit ≡ true
+unfolding badRoute
+no-fourth k limit = rw (le-ltb (suc (suc (suc (suc k)))) 1 (omega arith), lt-ltb 3 (suc (suc (suc (suc k)))) (omega arith))
+
+module _ (a d limit : ℕ) (x : Ending) (y : Result (List Vec3)) where
+  -- what holds of the three routes holds of a route that 8 does not refuse
+  pub route-cases : (P : Placement → Type 0) (route : ℕ) → badRoute route limit ≡ false → P (denseOr (leb d limit) a 1 y (failingAt 14 d)) →
+      P (byIterative a x failingAt) → P (byIterative a x (fallBack a d limit y)) → P (routedBy a d route limit x y)
+  unfolding routedBy badRoute
+  route-cases P zero e p q r = absurd (true≢false e)
+  route-cases P (suc zero) e p q r = p
+  route-cases P (suc (suc zero)) e p q r = q
+  route-cases P (suc (suc (suc zero))) e p q r = r
+  route-cases P (suc (suc (suc (suc k)))) e p q r = absurd (true≢false (sym (no-fourth k limit) ∙ e))
+
+iterative-route : (a d limit : ℕ) (x : Ending) (y : Result (List Vec3)) (route : ℕ) → badRoute route limit ≡ false → (route ≡ 1 → ⊥) →
+    byIterative a x (afterRefusal a d route limit y) ≡ routedBy a d route limit x y
+unfolding routedBy badRoute
+iterative-route a d limit x y zero e h = absurd (true≢false e)
+iterative-route a d limit x y (suc zero) e h = absurd (h refl)
+iterative-route a d limit (accepted s) y (suc (suc zero)) e h = refl
+iterative-route a d limit (refused k i) y (suc (suc zero)) e h = refl
+iterative-route a d limit (accepted s) y (suc (suc (suc zero))) e h = refl
+iterative-route a d limit (refused k i) y (suc (suc (suc zero))) e h = refl
+iterative-route a d limit x y (suc (suc (suc (suc k)))) e h = absurd (true≢false (sym (no-fourth k limit) ∙ e))
+
 module _ (s : Shape) (a route limit : ℕ) (x : Ending) (y : Result (List Vec3)) (l l' : List Float) (r : Answer) where
   pub route-first : route ≡ 1 → Routed s (workLength s 1 limit) (denseOr (leb (dimension s) limit) a 1 y (failingAt 14 (dimension s))) l l' r →
       Routed s (workLength s route limit) (routedBy a (dimension s) route limit x y) l l' r
   unfolding routedBy
   route-first e R = renamed s _ _ _ _ l l' r (rw e) (rw (eq-eqb route 1 e)) R
 
-  pub route-other : (route ≡ 1 → ⊥) → Routed s (workLength s route limit) (byIterative a x (afterRefusal a (dimension s) route limit y)) l l' r →
+  pub route-other : RouteReady s a route limit (length l) → (route ≡ 1 → ⊥) → Routed s (workLength s route limit) (byIterative a x (afterRefusal a (dimension s) route limit y)) l l' r →
       Routed s (workLength s route limit) (routedBy a (dimension s) route limit x y) l l' r
-  unfolding routedBy
-  route-other h R = renamed s _ _ _ _ l l' r refl (rw (ne-eqb route 1 h)) R
+  route-other Q h R = renamed s _ _ _ _ l l' r refl (iterative-route a (dimension s) limit x y route (Q .legal) h) R
 
 pub ready-first : (s : Shape) (a route limit size : ℕ) → route ≡ 1 → RouteReady s a route limit size → RouteReady s a 1 limit size
 ready-first s a route limit size e R = record { anchor = R .anchor; legal = rw e at (R .legal); room = rw e at (R .room) }

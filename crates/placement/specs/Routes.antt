@@ -44,6 +44,9 @@ report a route rounds = record { anchor = a; route = route; rounds = rounds }
 abbrev pub failingAt : ℕ → ℕ → Placement
 failingAt k p = failing (record { number = k; place = p })
 
+abbrev pub rejectedAt : ℕ → ℕ → Placement
+rejectedAt k p = rejected (record { number = k; place = p })
+
 -- dense as route r, with the anchor a: the cameras, or 15 to 17
 abbrev pub byDense : ℕ → ℕ → Result (List Vec3) → Placement
 byDense a r (done cameras) = placed (report a r 0) cameras
@@ -58,15 +61,18 @@ abbrev pub byIterative : ℕ → Ending → (ℕ → ℕ → Placement) → Plac
 byIterative a (accepted s) f = placed (report a 2 (s .round .count)) (s .positions)
 byIterative a (refused k i) f = f k i
 
--- what follows: on route 2 that refusal; on route 3 dense within the limit, else that refusal
-abbrev pub afterRefusal : ℕ → ℕ → ℕ → ℕ → Result (List Vec3) → ℕ → ℕ → Placement
-afterRefusal a d route limit y k i = cond (eqb route 2) (failingAt k i) (denseOr (leb d limit) a 3 y (failingAt k i))
+-- what follows on route 3: dense within the limit, else that refusal
+abbrev pub fallBack : ℕ → ℕ → ℕ → Result (List Vec3) → ℕ → ℕ → Placement
+fallBack a d limit y k i = denseOr (leb d limit) a 3 y (failingAt k i)
 
 -- '1 dense; 2 iterative; 3 iterative, then dense if that refused and n-1 is within the dense limit': the route of an anchor a, d = n - 1 dense
--- rows, and the answers x of the iterative and y of the dense solve. Route 1 over the limit is 14 at d.
+-- rows, and the answers x of the iterative and y of the dense solve. Route 1 over the limit is 14 at d. No other number is a route: 8.
 unfoldable pub routedBy : ℕ → ℕ → ℕ → ℕ → Ending → Result (List Vec3) → Placement
 routedBy a d route limit x y =
-    cond (eqb route 1) (denseOr (leb d limit) a 1 y (failingAt 14 d)) (byIterative a x (afterRefusal a d route limit y))
+    cond (eqb route 1) (denseOr (leb d limit) a 1 y (failingAt 14 d))
+    (cond (eqb route 2) (byIterative a x failingAt)
+    (cond (eqb route 3) (byIterative a x (fallBack a d limit y))
+    (rejectedAt 8 0)))
 
 unfoldable pub routed : Network → ℕ → ℕ → Placement
 routed net route limit = routedBy (anchor net) (net .shape .cameras - 1) route limit (solution (problem net)) (denseSolution net)

@@ -15,8 +15,8 @@ ghost use Rattle.network.specs.Network.{links};
 ghost use Rattle.network.specs.inner.Sound.{LinksSound};
 ghost use Rattle.system.specs.Work.{workEnd, workLength};
 ghost use Rattle.dense.specs.Dense.{dimension};
-ghost use Rattle.placement.specs.Routes.{afterRefusal, byDense, byIterative, denseOr, failingAt, routedBy};
-ghost use Rattle.placement.specs.inner.Routing.{RouteReady, Routed, denseIn, iterativeIn};
+ghost use Rattle.placement.specs.Routes.{byDense, byIterative, denseOr, failingAt, routedBy};
+ghost use Rattle.placement.specs.inner.Routing.{RouteReady, Routed, afterRefusal, denseIn, iterativeIn};
 
 // Dense, answering as the route that is named.
 fn go_dense(
@@ -48,7 +48,7 @@ fn go_dense(
     }
 }
 
-// Route 1: dense within the limit, else 14.
+// Route 1: dense within the limit (the Rust's `dense_fits`), else 14.
 fn go_first(
     s: Shape,
     ends: &[usize],
@@ -144,7 +144,7 @@ fn go_iterative(
     }
 }
 
-// The route, over the system that is formed in the work buffer.
+// The route, over the system that is formed in the work buffer. In the Rust `solve_reduced` chooses; here the caller does.
 pub(crate) fn go(
     s: Shape,
     ends: &[usize],

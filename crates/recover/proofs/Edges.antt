@@ -1,33 +1,44 @@
--- The edge rows of scales and points hold, by computing. Assumes nothing.
-use mathlib.Core.Path.{refl}
-use lib.Ieee.{add, sub, mul, div, lt, isNan, ofBits}
-use Rattle.field.specs.Vec.{isFinite, plus, minus, scale, over, dot}
-use Rattle.field.specs.Count.{upto, field, lowest}
-use Rattle.field.specs.Buffer.{get, load, vectorsIn}
-use Rattle.double.specs.Double.{greater}
-use Rattle.double.specs.Sums.{total}
-use Rattle.network.specs.Refusals.{test, testAt, andThen, verdict, running, badCameras, badCounts, countTests}
-use Rattle.network.specs.Refusals.{endsFit, raysFit, vectorsFit, listsFit, contentFits, networkFits, lengthTests, strays, loops, endTests, listTests}
-use Rattle.network.specs.Refusals.{badWeight, badScale, badVector, badRow, domainTests, networkRowTests}
-use Rattle.network.specs.Lists.{none, falls, offsetsRise, disordered, miscounted, listsHold}
-use Rattle.system.specs.System.{effectiveIn, pullIn, weightSum, pullSum, sumsFrom}
-use Rattle.system.specs.Edges.{single}
+-- The edge row of scales holds, and what the points of three other rows come to. By computing; assumes nothing.
+use mathlib.Core.Path.{_≡_, refl}
+use mathlib.Core.List.{[], _∷_}
+use lib.Ieee.{Float}
+use Rattle.field.specs.declared.Vec3.{Vec3}
+use Rattle.field.specs.Vec.{null, origin}
+use Rattle.network.proofs.Computing.{refusals}
+use Rattle.system.specs.System.{tiny, one}
+use Rattle.system.specs.Edges.{single, directed, five, half, two}
+use Rattle.system.proofs.Computing.{assembly}
 use Rattle.recover.specs.Part.{marked}
-use Rattle.recover.specs.Recover.{sighting, pointBy, nearEnd, farEnd, baselineIn, directionKept, keptByWeight, renewal, answerIn, newScaleIn, newScale}
+use Rattle.recover.specs.Recover.{sighting, pointBy, pointsOf, nearEnd, farEnd, baselineIn, directionKept, keptByWeight, renewal, answerIn, newScaleIn, newScale}
 use Rattle.recover.specs.Contracts.{buffersFit, placedTests}
-use Rattle.recover.specs.Edges.{RecoverEdges}
+use Rattle.recover.specs.Edges.{ScaleEdges}
 
-pub recover-edges : RecoverEdges
-unfolding single newScale newScaleIn answerIn renewal keptByWeight directionKept nearEnd farEnd baselineIn greater pointBy sighting pullSum weightSum sumsFrom pullIn effectiveIn total
-    vectorsIn load upto field get minus plus scale over dot add sub mul div lt isNan ofBits marked placedTests buffersFit verdict andThen test testAt running
-    countTests badCameras badCounts lengthTests networkFits contentFits endsFit raysFit vectorsFit listsFit networkRowTests endTests strays loops listTests listsHold
-    domainTests badWeight badScale isFinite badVector badRow none falls offsetsRise disordered miscounted lowest
-recover-edges = record {
-  ahead = (refl, refl);
-  behind = (refl, refl);
-  near = (refl, refl);
-  apart = (refl, refl);
-  seen = refl;
-  unseen = refl;
-  faint = refl;
+-- what points and scales are computed with
+unfoldable computing : Unit {0}
+unfolding refusals assembly placedTests buffersFit marked pointBy sighting newScale newScaleIn answerIn renewal keptByWeight directionKept nearEnd farEnd baselineIn
+computing = tt
+
+pub scale-edges : ScaleEdges
+unfolding computing directed
+scale-edges = record {
+  ahead = (refl, λ y. record { answer = refl; output = refl });
+  behind = (refl, λ y. record { answer = refl; output = refl });
+  near = (refl, λ y. record { answer = refl; output = refl });
+  apart = (refl, λ y. record { answer = refl; output = refl });
 }
+
+-- camera 0 at the origin sees point 0 along (0,0,1) with this weight and scale, and the point comes out as (x, y, z)
+abbrev GivesPoint : (w s x y z : Float) → Type 0
+GivesPoint w s x y z = pointsOf (single w s) (origin ∷ []) ≡ record { x = x; y = y; z = z } ∷ []
+
+pub point-seen : GivesPoint one half null null two
+unfolding computing single
+point-seen = refl
+
+pub point-unseen : GivesPoint null half five five five
+unfolding computing single
+point-unseen = refl
+
+pub point-faint : GivesPoint tiny one null null one
+unfolding computing single
+point-faint = refl

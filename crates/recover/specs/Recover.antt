@@ -78,6 +78,9 @@ renewal v d = cond (lt (dot d d) tiny) Kept (Renewed (greater (div binary64 (dot
 unfoldable pub answerIn : Bool → Shape → List ℕ → List Float → List Float → List Vec3 → ℕ → Scale
 answerIn keeps s ends rays points cs r = cond keeps Kept (renewal (get vector rays (3 * r)) (baselineIn s ends points cs r))
 
+abbrev pub scaleAnswer : Network → List Vec3 → ℕ → Scale
+scaleAnswer net cs r = answerIn (keptByWeight net r) (net .shape) (net .ends) (net .rays) (net .positions) cs r
+
 -- document 01's number for each answer: a kept scale is the old one
 abbrev pub scaleNumber : Float → Scale → Float
 scaleNumber old Kept = old

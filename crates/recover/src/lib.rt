@@ -22,11 +22,11 @@ ghost use Rattle.field.specs.Buffer.{flat, vector, vectorsIn};
 ghost use Rattle.network.specs.Network.{network, links, rows};
 ghost use Rattle.network.specs.inner.Sound.{EndsSound, LinksSound};
 ghost use Rattle.system.specs.Work.{matrixAt};
-ghost use Rattle.system.specs.inner.Formed.{RowsThere, weightsIn};
+ghost use Rattle.system.specs.inner.Formed.{RowsThere, positionsIn, weightsIn};
 ghost use Rattle.recover.specs.Part.{marked, cameraPart};
 ghost use Rattle.recover.specs.Recover.{pointsBy, dotIn};
 ghost use Rattle.recover.specs.Contracts.{placed, DotsFilled, ScalesFilled};
-ghost use Rattle.recover.specs.inner.Reads.{PositionsThere, positionsIn};
+ghost use Rattle.recover.specs.inner.Reads.{PositionsThere};
 
 // A scale answer: the old scale is kept, or it is renewed with a number.
 pub enum Scale {
@@ -41,7 +41,7 @@ pub fn camera<'a>(current: &'a [f64], trial: &'a [f64], mark: bool, i: usize) ->
     camera_part(marked_buffer(current, trial, mark), i)
 }
 
-// All points, from the cameras and the weights that the work buffer holds.
+// All points, from the cameras and the weights that the work buffer holds: the Rust's `recover_trial_points`.
 pub fn recover_points(
     s: Shape,
     ends: &[usize],
@@ -82,7 +82,7 @@ pub fn recover_points(
     }
 }
 
-// The dot of each row (`update_trial_dots`).
+// The dot of each row: the Rust's `update_trial_dots`.
 fn fill_dots(
     s: Shape,
     ends: &[usize],
@@ -156,7 +156,7 @@ pub fn dots<'a>(
     }
 }
 
-// The new scale of each row, bearings first; a kept one is the old. Refusals 1 to 7.
+// The new scale of each row, bearings first; a kept one is the old: the Rust's `update_trial_scales`. Refusals 1 to 7.
 pub fn scales<'a>(
     s: Shape,
     ends: &[usize],

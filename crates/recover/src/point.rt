@@ -19,9 +19,9 @@ ghost use Rattle.network.specs.Network.{network, links, rows, firstEnd};
 ghost use Rattle.network.specs.inner.Sound.{ShapeSound, EndsSound, ListedSound, LinksSound};
 ghost use Rattle.system.specs.System.{pullSum};
 ghost use Rattle.system.specs.Work.{matrixAt};
-ghost use Rattle.system.specs.inner.Formed.{RowsThere, weightsIn};
+ghost use Rattle.system.specs.inner.Formed.{RowsThere, positionsIn, weightsIn};
 ghost use Rattle.recover.specs.Recover.{pointBy};
-ghost use Rattle.recover.specs.inner.Reads.{positionsIn, sightingIn};
+ghost use Rattle.recover.specs.inner.Reads.{sightingIn};
 
 // Camera c of the work buffer.
 fn placed_camera(s: Shape, work: &[f64], c: usize) -> Vec3

@@ -45,15 +45,6 @@ module _ {A : Type 0} (K : Cell A) (W : Lawful K) (l : List Float) (p : ℕ) (f 
   unfolding store
   part-store q n h = part-apart l p (flat K f) q n (rw (length-flat K W f) h)
 
-  -- a store in the fields between terms and point weights, or past the effective weights
-  pub segments-store : (s : Shape) (w : Weights) (t : List CameraTerm) → Segments s w t l → termPlace (s .cameras) ≤ p → (p + K .width * length f ≤ weightsAt s) ⊎ (matrixAt s ≤ p) →
-      Segments s w t (store K l p f)
-  segments-store s w t h k j = record {
-    terms = load-store-apart term K W l p f 0 (s .cameras) (inr (omega arith)) ∙ h .terms;
-    points = part-store (weightsAt s) (s .points) (⊎-elim (λ b. inl b) (λ b. inr (omega arith)) j) ∙ h .points;
-    rows = part-store (effectiveAt s) (rows s) (⊎-elim (λ b. inl (omega arith)) (λ b. inr (omega arith)) j) ∙ h .rows;
-  }
-
   kept : (k : ℕ) (w : List Float) → w ≡ store K l p f → p + K .width * length f ≤ k → (drop k w ≡ drop k l) × (length w ≡ length l)
   kept k w e h = (ap (drop k) e ∙ drop-store K W k l p f h, ap length e ∙ length-store K l p f)
 

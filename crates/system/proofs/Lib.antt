@@ -5,3 +5,4 @@ pub mod Sums
 pub mod Rows
 pub mod Forming
 pub mod Edges
+pub mod Computing

@@ -1,4 +1,4 @@
-// The cameras' terms, row by row (`assemble_camera_system`), and the anchor (`pick_anchor`).
+// The cameras' terms, row by row, and the anchor.
 use crate::get_term;
 use crate::pull;
 use crate::put_term;
@@ -116,7 +116,7 @@ fn assemble_rows(
     }
 }
 
-// The terms of all cameras.
+// The terms of all cameras: the Rust's `assemble_camera_system`.
 pub(crate) fn assemble(
     s: Shape,
     ends: &[usize],
@@ -156,7 +156,7 @@ impl Best {
     }
 }
 
-// The camera of the greatest degree, the first on a tie, 0 if none exceeds -1.
+// The camera of the greatest degree, the first on a tie, 0 if none exceeds -1: the Rust's `pick_anchor`.
 pub(crate) fn pick_anchor(work: &[f64], n: usize) -> usize
     requires { ⌜ (n ≤ 4096) × (termPlace n ≤ length (now work)) ⌝ }
     ensures { λ r. ⌜ r ≡ anchorOf (load term (now (work .entry)) 0 n) n ⌝ }

@@ -1,4 +1,4 @@
-// Effective weights, point weights and mean offsets: the Rust's `update_point_statistics`.
+// Effective weights, point weights and mean offsets.
 use crate::effective;
 use crate::pull;
 use crate::work::effective_at;
@@ -22,7 +22,7 @@ ghost use Rattle.system.specs.System.{effectiveIn, pullIn, weightSum, pu
 ghost use Rattle.system.specs.Work.{weightsAt, meansAt, effectiveAt, matrixAt};
 ghost use Rattle.system.specs.inner.Formed.{RowsThere, pointStored, summed};
 
-// The effective weights of all rows, in their segment.
+// The effective weights of all rows, in their segment (formed at the end of the Rust's `update_robust_weights`).
 pub(crate) fn fill_effective(s: Shape, weights: &[f64], scales: &[f64], work: &mut [f64])
     requires { ⌜ ShapeSound s ⌝ }
     requires { ⌜ (rows s ≤ length (now weights)) × (rows s ≤ length (now scales)) × (matrixAt s ≤ length (now work)) ⌝ }
@@ -158,7 +158,7 @@ fn store_point(
     put_sums(s, work, p, t);
 }
 
-// The weights and the mean offsets of all points.
+// The weights and the mean offsets of all points: the Rust's `update_point_statistics`.
 pub(crate) fn sum_points(
     s: Shape,
     rays: &[f64],

@@ -17,7 +17,7 @@ use Rattle.network.specs.inner.Sound.{ShapeSound}
 use Rattle.network.specs.declared.Shape.{Shape}
 use Rattle.system.specs.Work.{appliedAt, positionsAt, residualAt, rightAt, searchAt, term, termPlace, weightsAt}
 use Rattle.system.specs.System.{ridge}
-use Rattle.system.specs.inner.Formed.{weightsIn}
+use Rattle.system.specs.inner.Formed.{positionsIn, weightsIn}
 use Rattle.operator.specs.Operator.{reducedBy}
 use Rattle.iterative.specs.Method.{Ending, Run, State, accepted, allowed, any, badResidual, boundOf, closed, component, continued, ended}
 use Rattle.iterative.specs.Method.{failed, flag, moved, next, preconditioned, redirect, refused, residualOf, round, running, solution}
@@ -79,10 +79,7 @@ problemWith s a l op = record {
 abbrev pub problemIn : Links → ℕ → List Float → Problem
 problemIn L a l = problemWith (L .shape) a l (reducedBy L (weightsIn (L .shape) l) a)
 
--- the positions, and with them the fields that a round changes and the round's record
-abbrev pub positionsIn : Shape → List Float → List Vec3
-positionsIn s l = load vector l (positionsAt s) (s .cameras)
-
+-- the fields that a round changes, with the round's record
 abbrev pub stateIn : Shape → List Float → Round → State
 stateIn s l r = record {
   positions = positionsIn s l;

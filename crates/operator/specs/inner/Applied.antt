@@ -4,12 +4,14 @@ use mathlib.Core.List.{List}
 use Prim.Native.Nat.{ℕ, _*_, _+_, _<_, _≤_}
 use lib.Ieee.{Float}
 use Rattle.field.specs.Buffer.{get, load, store, vector}
+use Rattle.field.specs.Vec.{minus, plus, scale}
+use Rattle.field.specs.declared.Vec3.{Vec3}
 use Rattle.network.specs.Network.{Links, firstEnd}
 use Rattle.network.specs.inner.Sound.{ShapeSound}
 use Rattle.network.specs.declared.Shape.{Shape}
 use Rattle.system.specs.Work.{matrixAt, positionsAt, weightsAt}
 use Rattle.system.specs.inner.Formed.{weightsIn}
-use Rattle.operator.specs.Operator.{Change, reducedBy}
+use Rattle.operator.specs.Operator.{Change, gains, reducedBy}
 use Rattle.operator.specs.declared.short.Sight.{Sight}
 
 -- Two fields of n vectors, one before the other, among the six that follow the camera terms in a buffer of so many numbers.
@@ -37,6 +39,14 @@ pub record Seen (s : Shape) (ends : List ℕ) (l : List Float) (from r : ℕ) (t
   pub below : t .camera < s .cameras
   pub weight : t .weight ≡ weightsIn s l .row r
   pub at : t .at ≡ get vector l (from + 3 * firstEnd ends r)
+
+-- a sum with a sight's camera added by its weight
+abbrev pub added : Sight → Vec3 → Vec3
+added t v = plus v (scale (t .at) (t .weight))
+
+-- a field whose camera of a sight gains (camera - u) × weight, where the anchor is a
+abbrev pub pushed : ℕ → Vec3 → Sight → List Vec3 → List Vec3
+pushed a u t y = gains a (t .camera) (scale (minus (t .at) u) (t .weight)) y
 
 -- the buffer with the field at `into` changed by the weights in it and the field at `from`
 unfoldable pub applied : Shape → ℕ → ℕ → Change → List Float → List Float

@@ -2,7 +2,8 @@
 use Prim.Native.Nat.{ℕ, _≤_, _<_}
 use mathlib.Core.Path.{_≡_}
 use mathlib.Core.List.{List}
-use mathlib.Core.Bool.{false}
+use mathlib.Core.Bool.{cond, false}
+use lib.Dec.{eqb}
 use lib.ListN.{drop, length}
 use lib.Ieee.{Float}
 use Rattle.field.specs.declared.Vec3.{Vec3}
@@ -14,15 +15,14 @@ use Rattle.network.specs.inner.Sound.{NetworkSound}
 use Rattle.system.specs.System.{Weights, terms, weightsOf}
 use Rattle.system.specs.Work.{term, workLength}
 use Rattle.system.specs.declared.CameraTerm.{CameraTerm}
-use Rattle.system.specs.inner.Formed.{Segments, weightsIn}
+use Rattle.system.specs.inner.Formed.{Segments, positionsIn, weightsIn}
 use Rattle.iterative.specs.Method.{Ending, solution}
 use Rattle.iterative.specs.Reduced.{problemBy}
-use Rattle.iterative.specs.inner.Solver.{positionsIn}
 use Rattle.cholesky.specs.Cholesky.{Result}
 use Rattle.dense.specs.Dense.{denseSolutionBy}
 use Rattle.placement.specs.declared.Answer.{Answer}
 use Rattle.placement.specs.declared.Answer.the-variants.{Refused, Accepted}
-use Rattle.placement.specs.Routes.{Placement, failing, placed, routed}
+use Rattle.placement.specs.Routes.{Placement, failing, failingAt, fallBack, placed, routed}
 use Rattle.placement.specs.Solved.{answerOf, camerasAfter, pointsAfter}
 
 -- ---- a route, over the system that stands in the buffer
@@ -39,6 +39,10 @@ iterativeIn L a l = solution (problemBy L (weightsIn (L .shape) l) (load term l 
 
 abbrev pub denseIn : Links → ℕ → List Float → Result (List Vec3)
 denseIn L a l = denseSolutionBy L (weightsIn (L .shape) l) (load term l 0 (L .shape .cameras)) a
+
+-- after a refusal of the iterative part, on either of its routes: that refusal on route 2, what follows on route 3
+abbrev pub afterRefusal : ℕ → ℕ → ℕ → ℕ → Result (List Vec3) → ℕ → ℕ → Placement
+afterRefusal a d route limit y k i = cond (eqb route 2) (failingAt k i) (fallBack a d limit y k i)
 
 -- an answer, with the cameras that stand in the buffer
 abbrev pub outcome : Answer → List Vec3 → Placement

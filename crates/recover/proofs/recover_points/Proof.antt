@@ -7,9 +7,8 @@ use Rattle.field.specs.Count.{field}
 use Rattle.field.specs.Buffer.{store, vector}
 use Rattle.field.proofs.Buffers.{store-none}
 use Rattle.network.specs.Network.{network}
-use Rattle.system.specs.inner.Formed.{weightsIn}
+use Rattle.system.specs.inner.Formed.{positionsIn, weightsIn}
 use Rattle.recover.specs.Recover.{pointBy}
-use Rattle.recover.specs.inner.Reads.{positionsIn}
 use borrow.Author.Needs.{needs}
 use Rattle.recover.proofs.recover_points.Statement.{statement}
 use Rattle.recover.proofs.recover_points.Tie as tie

@@ -5,13 +5,11 @@ use mathlib.Core.List.{List}
 use lib.ListN.{length}
 use lib.Ieee.{Float}
 use Rattle.field.specs.declared.Vec3.{Vec3}
-use Rattle.field.specs.Buffer.{load, vector}
 use Rattle.network.specs.declared.Shape.{Shape}
 use Rattle.network.specs.Network.{Network, rows}
 use Rattle.network.specs.inner.Sound.{NetworkSound}
 use Rattle.system.specs.System.{pullIn}
-use Rattle.system.specs.Work.{positionsAt}
-use Rattle.system.specs.inner.Formed.{weightsIn}
+use Rattle.system.specs.inner.Formed.{positionsIn, weightsIn}
 use Rattle.recover.specs.Recover.{sighting}
 
 -- the numbers of the m points and the n cameras are there
@@ -25,10 +23,6 @@ pub record Accepted (net : Network) (placed out : List Float) : Type 0 where
   pub cameras : length placed ≡ 3 * net .shape .cameras
   pub room : length out ≡ rows (net .shape)
 
--- the cameras that the work buffer l holds
-abbrev pub positionsIn : Shape → List Float → List Vec3
-positionsIn s l = load vector l (positionsAt s) (s .cameras)
-
--- a row's sighting, by them and by the effective weights that it holds
+-- a row's sighting, by the cameras and the effective weights that the work buffer l holds
 abbrev pub sightingIn : Shape → List ℕ → List Float → List Float → List Float → List Float → ℕ → Vec3
 sightingIn s ends rays weights scales l = sighting (weightsIn s l .row) (pullIn rays weights scales) ends (positionsIn s l)

@@ -11,7 +11,7 @@ use Rattle.network.specs.declared.Shape.{Shape}
 use Rattle.network.specs.Network.{rows}
 use Rattle.system.specs.declared.CameraTerm.{CameraTerm}
 use Rattle.system.specs.System.{Weights, Sums, Addition, termsBy, anchorOf}
-use Rattle.system.specs.Work.{weightsAt, meansAt, effectiveAt, matrixAt, term}
+use Rattle.system.specs.Work.{positionsAt, weightsAt, meansAt, effectiveAt, matrixAt, term}
 
 -- ---- what is required
 
@@ -26,6 +26,10 @@ pub record RowsThere (s : Shape) (rs ws ss : List Float) : Type 0 where
 -- the weights
 abbrev pub weightsIn : Shape → List Float → Weights
 weightsIn s l = record { row = λ r. getD l (effectiveAt s + r) nan; point = λ p. getD l (weightsAt s + p) nan }
+
+-- the cameras' positions
+abbrev pub positionsIn : Shape → List Float → List Vec3
+positionsIn s l = load vector l (positionsAt s) (s .cameras)
 
 -- one pull for every row
 abbrev pub always : Vec3 → ℕ → Vec3
