@@ -28,6 +28,7 @@ solving = tt
 -- one camera: the solve's end and the recovered point make the row
 solves : (w s x y z : Float) → placement (submission (single w s) 3 48 28 3 3) ≡ placed (report 0 2 0) (origin ∷ []) →
     pointsOf (single w s) (origin ∷ []) ≡ record { x = x; y = y; z = z } ∷ [] → Solves w s x y z
+unfolding flat
 solves w s x y z e q = record {
   answer = ap answerOf e;
   camera = λ old. ap (λ (p : Placement). camerasAfter p old) e;
