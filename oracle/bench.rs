@@ -3,7 +3,8 @@
 //! The Rust is run in two ways. Matrix-free, as document 01 takes the step: the port has its bits, and they are compared in the same
 //! run. And by its plan, as the kernel itself runs the step without the `faer` feature: with materialized couplings where `try_new`
 //! turns them on, and by `solve_reduced`, which goes dense up to 256 cameras, else iterative, then dense. Its answers differ in the
-//! last digits where couplings are on; how far the cameras are apart is printed.
+//! last digits where couplings are on; how far the cameras are apart is printed. The plan is made without the checks of `try_new`:
+//! what they would say is printed too.
 //!
 //! A time is the processor time of this thread, the least of several runs on warm buffers and of several passes over everything. The
 //! Rust's plan and workspace are made before the clock starts, as the kernel does, and its effective weights too: the kernel forms
@@ -12,7 +13,7 @@
 //! holds the zeros of the call before.
 
 use networks::{Network, block_of, full, generate};
-use oracle::{Oracle, ReducedSystemBackend, Tag};
+use oracle::{Oracle, ReducedSystemBackend, Tag, tried};
 use port::Port;
 use std::time::Duration;
 
@@ -143,7 +144,7 @@ struct Solve {
     /// The Rust's two over the port, in the pass where the ratio was least and where it was greatest.
     ratios: [[f64; 2]; 2],
     rounds: usize,
-    /// How the plan's answer differs.
+    /// Rounds and couplings, how far the plan's cameras are from the port's, and what the plan's own checks say.
     note: String,
 }
 
@@ -256,9 +257,15 @@ fn solve(name: &str, net: &Network, route: usize, limit: usize, runs: usize) -> 
     let far = apart(&planned.trial_cameras(), &port.cameras);
     assert!(far < 1e-6, "{name}: the plan's cameras are {far:e} apart");
     assert!(backend == ReducedSystemBackend::SparseCouplingPcg, "{name}: by its plan {backend:?} answered");
-    let [rounds_told, planned_told, couplings] = [rounds, planned_rounds, planned.couplings().unwrap_or(0)].map(grouped);
-    let told = if answered == 2 { format!("{rounds_told} rounds") } else { "dense".to_string() };
-    let note = format!("{told}; by its plan {planned_told} rounds, {couplings} couplings; {far:.0e} apart");
+    let couplings = planned.couplings().unwrap_or(0);
+    let checks = match tried(&net.view()) {
+        Ok(number) if number == couplings => "taken".to_string(),
+        Ok(number) => panic!("{name}: try_new has {number} couplings, not {couplings}"),
+        Err(refusal) => refusal,
+    };
+    let told = if answered == 2 { format!("{} rounds", grouped(rounds)) } else { "dense".to_string() };
+    let by_plan = format!("{} rounds, {} couplings", grouped(planned_rounds), grouped(couplings));
+    let note = format!("{told}; by its plan {by_plan}; {far:.0e} apart; {checks}");
     (Solve::new(name, [free_time, planned_time, port_time], rounds, note), port.cameras)
 }
 
