@@ -1,13 +1,20 @@
-//! Times of the oracle's stages beside the port's calls, one table: bench [--quick].
+//! Times of the Rust's own functions beside the port's calls: bench [--quick].
 //!
-//! A time is the processor time of this thread, the least of several runs on warm buffers. The oracle's plan and workspace are made
-//! before the clock starts, as the kernel does, and its effective weights too: the kernel forms them together with the robust
-//! weights. A port's solve is the whole call, its tests 1 to 8 and the effective weights included, with a work buffer that holds the
-//! zeros of the call before; it stands beside the oracle's sums, assembly, anchor, solve and points together. Built with
-//! `--cfg port` it links the port, fills its column and compares the bits in the same run.
+//! The Rust is run in two ways. Matrix-free, as document 01 takes the step: the port has its bits, and they are compared in the same
+//! run. And by its plan, as the kernel itself runs the step without the `faer` feature: with materialized couplings where `try_new`
+//! turns them on, and by `solve_reduced`, which goes dense up to 256 cameras, else iterative, then dense. Its answers differ in the
+//! last digits where couplings are on; how far the cameras are apart is printed. The plan is made without the checks of `try_new`:
+//! what they would say is printed too.
+//!
+//! A time is the processor time of this thread, the least of several runs on warm buffers and of several passes over everything. The
+//! Rust's plan and workspace are made before the clock starts, as the kernel does, and its effective weights too: the kernel forms
+//! them together with the robust weights. A Rust solve is its sums, assembly (couplings too, where they are on), anchor, solve and
+//! points together. A port's solve is the whole call, its tests 1 to 8 and the effective weights included, with a work buffer that
+//! holds the zeros of the call before.
 
 use networks::{Network, block_of, full, generate};
-use oracle::Oracle;
+use oracle::{Oracle, ReducedSystemBackend, Tag, tried};
+use port::Port;
 use std::time::Duration;
 
 /// The processor time that this thread has used.
@@ -21,7 +28,6 @@ fn clock() -> Duration {
     Duration::new(time[0] as u64, time[1] as u32)
 }
 
-#[cfg(port)]
 mod port {
     use super::*;
 
@@ -131,103 +137,209 @@ fn best<T>(runs: usize, mut work: impl FnMut() -> T) -> (Duration, T) {
     (least, last.unwrap())
 }
 
-fn line(name: &str, stage: &str, oracle: Duration, port: Option<Duration>, note: &str) {
-    let ms = |d: Duration| format!("{:.3}", d.as_secs_f64() * 1e3);
-    let ratio = port.map_or("-".to_string(), |p| format!("{:.2}", oracle.as_secs_f64() / p.as_secs_f64()));
-    println!("| {name} | {stage} | {} | {} | {ratio} | {note} |", ms(oracle), port.map_or("-".to_string(), ms));
+/// A solve: the Rust matrix-free, the Rust by its plan, the port.
+struct Solve {
+    name: String,
+    times: [Duration; 3],
+    /// The Rust's two over the port, in the pass where the ratio was least and where it was greatest.
+    ratios: [[f64; 2]; 2],
+    rounds: usize,
+    /// Rounds and couplings, how far the plan's cameras are from the port's, and what the plan's own checks say.
+    note: String,
 }
 
-fn table(name: &str, net: &Network, route: usize, limit: usize, runs: usize) {
-    let view = net.view();
-    let mut oracle = Oracle::new(&view);
+impl Solve {
+    fn new(name: &str, times: [Duration; 3], rounds: usize, note: String) -> Self {
+        let ratios = [0, 1].map(|i| [ratio(times[i], times[2]); 2]);
+        Self { name: name.to_string(), times, ratios, rounds, note }
+    }
+
+    /// The least of two passes.
+    fn join(&mut self, pass: Self) {
+        for (time, other) in self.times.iter_mut().zip(pass.times) {
+            *time = other.min(*time);
+        }
+        for ([least, greatest], [low, high]) in self.ratios.iter_mut().zip(pass.ratios) {
+            (*least, *greatest) = (least.min(low), greatest.max(high));
+        }
+    }
+
+    fn print(&self) {
+        let [free, planned, port] = self.times;
+        let beside = |time, [least, greatest]: [f64; 2]| match ratio(time, port) {
+            only if least == greatest => format!("{only:.2}"),
+            whole => format!("{whole:.2} ({least:.2} to {greatest:.2})"),
+        };
+        let (first, second) = (beside(free, self.ratios[0]), beside(planned, self.ratios[1]));
+        println!("| {} | {} | {} | {} | {first} | {second} | {} |", self.name, ms(free), ms(planned), ms(port), self.note);
+    }
+}
+
+/// The other calls and the Rust's stages.
+struct Calls {
+    name: String,
+    /// The Rust, the port.
+    dots: [Duration; 2],
+    scales: [Duration; 2],
+    connectivity: [Duration; 2],
+    /// The port: refused by 8, refused by 14.
+    refused: [Duration; 2],
+    /// The Rust: sums and assembly, the same with couplings, couplings compiled, points.
+    stages: [Duration; 4],
+}
+
+impl Calls {
+    fn join(&mut self, pass: Self) {
+        let least = |times: &mut [Duration], others: &[Duration]| times.iter_mut().zip(others).for_each(|(time, other)| *time = (*time).min(*other));
+        least(&mut self.dots, &pass.dots);
+        least(&mut self.scales, &pass.scales);
+        least(&mut self.connectivity, &pass.connectivity);
+        least(&mut self.refused, &pass.refused);
+        least(&mut self.stages, &pass.stages);
+    }
+
+    fn print(&self) {
+        let beside = |[rust, port]: [Duration; 2]| format!("{} / {} = {:.2}", ms(rust), ms(port), ratio(rust, port));
+        let [dots, scales, connectivity] = [self.dots, self.scales, self.connectivity].map(beside);
+        println!("| {} | {dots} | {scales} | {connectivity} | {} | {} |", self.name, ms(self.refused[0]), ms(self.refused[1]));
+    }
+
+    fn print_stages(&self) {
+        println!("| {} | {} |", self.name, self.stages.map(ms).join(" | "));
+    }
+}
+
+fn ratio(rust: Duration, port: Duration) -> f64 {
+    rust.as_secs_f64() / port.as_secs_f64()
+}
+
+/// Milliseconds, to about three digits.
+fn ms(time: Duration) -> String {
+    let ms = time.as_secs_f64() * 1e3;
+    let digits = [(0.1, 3), (10.0, 2), (1000.0, 1)].iter().find(|(bound, _)| ms < *bound).map_or(0, |(_, digits)| *digits);
+    let text = format!("{ms:.digits$}");
+    if digits == 0 { grouped(text.parse().unwrap()) } else { text }
+}
+
+fn grouped(number: usize) -> String {
+    if number < 1000 { number.to_string() } else { format!("{},{:03}", grouped(number / 1000), number % 1000) }
+}
+
+fn same(left: &[f64], right: &[f64]) -> bool {
+    left.len() == right.len() && left.iter().zip(right).all(|(l, r)| l.to_bits() == r.to_bits() || (l.is_nan() && r.is_nan()))
+}
+
+/// The greatest difference between two lists of coordinates, beside the greatest coordinate.
+fn apart(left: &[f64], right: &[f64]) -> f64 {
+    let most = right.iter().fold(0.0, |most: f64, x| most.max(x.abs()));
+    left.iter().zip(right).fold(0.0, |far: f64, (l, r)| far.max((l - r).abs())) / most
+}
+
+/// The stages of a Rust solve together, `reduced` being its choice of parts.
+fn whole<T>(oracle: &mut Oracle, runs: usize, mut reduced: impl FnMut(&mut Oracle) -> Result<T, Tag>) -> (Duration, T) {
     let (sums, ()) = best(runs.max(3), || oracle.sums());
     let (assembly, ()) = best(runs.max(3), || oracle.assemble());
-    let (pick, anchor) = best(runs.max(3), || oracle.anchor());
-    let (solve, answer) = best(runs, || if route == 1 { oracle.dense(anchor).map(|()| 0) } else { oracle.iterative(anchor) });
+    let (solve, answer) = best(runs, || reduced(oracle));
     let (points, ()) = best(runs.max(3), || oracle.recover());
-    let told = match &answer {
-        Ok(rounds) => format!("{rounds} rounds"),
-        Err(tag) => format!("refused {} at {}", tag.number, tag.place),
-    };
-    let cameras = oracle.trial_cameras();
-    let placed = oracle.trial_points();
-    // the dots and scales of the placed cameras and the old points, as the port forms them from the same network
-    oracle.place(&cameras, &net.points);
-    let (dots, ()) = best(runs.max(3), || oracle.dots());
-    let (scales, ()) = best(runs.max(3), || oracle.scales());
-    let (connected, whole) = best(runs.max(3), || oracle.connected());
-    let whole_solve = sums + assembly + pick + solve + points;
+    (sums + assembly + solve + points, answer.unwrap_or_else(|tag| panic!("refused {} at {}", tag.number, tag.place)))
+}
 
-    #[allow(unused_mut)]
-    let mut port: [Option<Duration>; 6] = [None; 6];
-    #[cfg(port)]
-    {
-        let same = |left: &[f64], right: &[f64]| left.iter().zip(right).all(|(l, r)| l.to_bits() == r.to_bits() || (l.is_nan() && r.is_nan()));
-        let mut lent = port::Port::new(net, route, limit);
-        let (time, number) = best(runs, || lent.solve(route, limit));
-        port[0] = Some(time);
-        match &answer {
-            Ok(rounds) => {
-                assert!(number == 0 && lent.report == [anchor, route, *rounds] && same(&lent.cameras, &cameras) && same(&lent.placed, &placed), "{name}: solve differs");
-            }
-            Err(tag) => assert!(number == tag.number && lent.report[0] == tag.place, "{name}: refusal differs"),
-        }
-        for (index, of) in [oracle.trial_dots(), oracle.trial_scales()].iter().enumerate() {
-            let (time, number) = best(runs.max(3), || lent.step(index == 1, &cameras));
-            port[1 + index] = Some(time);
-            assert!(number == 0 && same(&lent.out, of), "{name}: dots or scales differ");
-        }
-        let (time, number) = best(runs.max(3), || lent.connected());
-        port[3] = Some(time);
-        assert!(number == 0 && lent.report[0] == whole as usize, "{name}: connectivity differs");
-        // every test is passed but the last, 8
-        let (time, number) = best(runs.max(3), || lent.solve(route, 257));
-        port[4] = Some(time);
-        assert!(number == 8, "{name}: a limit of 257 is not refused");
-        // the system is formed, then the route is refused, and the work buffer is cleared
-        let (time, number) = best(runs.max(3), || lent.solve(1, 0));
-        port[5] = Some(time);
-        assert!(number == 14, "{name}: a limit of 0 is not refused");
-    }
-    let _ = (&placed, limit);
-    line(name, "sums and assembly", sums + assembly + pick, None, "");
-    line(name, if route == 1 { "dense" } else { "iterative" }, solve, None, &told);
-    line(name, "points", points, None, "");
-    line(name, "solve, the three together", whole_solve, port[0], "");
-    line(name, "dots", dots, port[1], "");
-    line(name, "scales (the port's forms W again)", scales, port[2], "");
-    line(name, "connectivity", connected, port[3], if whole { "connected" } else { "not connected" });
-    for (time, what) in [(port[4], "tests 1 to 8 alone (refused by 8)"), (port[5], "tests, sums and assembly, buffer cleared (refused by 14)")] {
-        if let Some(time) = time {
-            println!("| {name} | {what} | - | {:.3} | - | |", time.as_secs_f64() * 1e3);
-        }
+/// A solve by a route, and the cameras that it placed.
+fn solve(name: &str, net: &Network, route: usize, limit: usize, runs: usize) -> (Solve, Vec<f64>) {
+    let mut free = Oracle::new(&net.view());
+    let (free_time, (anchor, answered, rounds)) = whole(&mut free, runs, |oracle| oracle.reduced(route, limit));
+    let mut planned = Oracle::planned(&net.view());
+    let (planned_time, (backend, planned_rounds)) = whole(&mut planned, runs, |oracle| oracle.by_plan());
+    let mut port = Port::new(net, route, limit);
+    let (port_time, number) = best(runs, || port.solve(route, limit));
+    assert!(number == 0 && port.report == [anchor, answered, rounds], "{name}: the answer differs");
+    assert!(same(&port.cameras, &free.trial_cameras()) && same(&port.placed, &free.trial_points()), "{name}: the placement differs");
+    let far = apart(&planned.trial_cameras(), &port.cameras);
+    assert!(far < 1e-6, "{name}: the plan's cameras are {far:e} apart");
+    assert!(backend == ReducedSystemBackend::SparseCouplingPcg, "{name}: by its plan {backend:?} answered");
+    let couplings = planned.couplings().unwrap_or(0);
+    let checks = match tried(&net.view()) {
+        Ok(number) if number == couplings => "taken".to_string(),
+        Ok(number) => panic!("{name}: try_new has {number} couplings, not {couplings}"),
+        Err(refusal) => refusal,
+    };
+    let told = if answered == 2 { format!("{} rounds", grouped(rounds)) } else { "dense".to_string() };
+    let by_plan = format!("{} rounds, {} couplings", grouped(planned_rounds), grouped(couplings));
+    let note = format!("{told}; by its plan {by_plan}; {far:.0e} apart; {checks}");
+    (Solve::new(name, [free_time, planned_time, port_time], rounds, note), port.cameras)
+}
+
+/// The other calls and stages, dots and scales being of the given cameras and the old points.
+fn calls(name: &str, net: &Network, cameras: &[f64], runs: usize) -> Calls {
+    let mut planned = Oracle::planned(&net.view());
+    let sums = best(runs, || planned.sums()).0;
+    let with_couplings = sums + best(runs, || planned.assemble()).0;
+    let (compiled, couplings) = best(runs, || planned.couplings());
+    assert!(couplings.is_some(), "{name}: the plan has no couplings");
+    let mut oracle = Oracle::new(&net.view());
+    let sums = best(runs, || oracle.sums()).0;
+    let assembly = sums + best(runs, || oracle.assemble()).0;
+    oracle.place(cameras, &net.points);
+    let mut port = Port::new(net, 1, 0);
+    let rust_dots = best(runs, || oracle.dots()).0;
+    let (dots, number) = best(runs, || port.step(false, cameras));
+    assert!(number == 0 && same(&port.out, &oracle.trial_dots()), "{name}: dots differ");
+    let rust_scales = best(runs, || oracle.scales()).0;
+    let (scales, number) = best(runs, || port.step(true, cameras));
+    assert!(number == 0 && same(&port.out, &oracle.trial_scales()), "{name}: scales differ");
+    let (rust_connectivity, answer) = best(runs, || oracle.connected());
+    let (connectivity, number) = best(runs, || port.connected());
+    assert!(number == 0 && port.report[0] == answer as usize, "{name}: connectivity differs");
+    // every test is passed but the last, 8
+    let (tests, number) = best(runs, || port.solve(1, 257));
+    assert!(number == 8, "{name}: a limit of 257 is not refused");
+    // the system is formed, then the route is refused, and the work buffer is cleared
+    let (formed, number) = best(runs, || port.solve(1, 0));
+    assert!(number == 14, "{name}: a limit of 0 is not refused");
+    let points = best(runs, || oracle.recover()).0;
+    Calls {
+        name: name.to_string(),
+        dots: [rust_dots, dots],
+        scales: [rust_scales, scales],
+        connectivity: [rust_connectivity, connectivity],
+        refused: [tests, formed],
+        stages: [assembly, with_couplings, compiled, points],
     }
 }
 
-/// The ordinary small networks that fit the solve program's image, all together.
-fn small(runs: usize) {
+/// Whole solves of some networks, one after the other: which were accepted.
+fn every(oracles: &mut [Oracle], runs: usize, reduced: impl Fn(&mut Oracle) -> bool) -> (Duration, Vec<bool>) {
+    let solve = |oracle: &mut Oracle| {
+        oracle.sums();
+        oracle.assemble();
+        let accepted = reduced(oracle);
+        if accepted {
+            oracle.recover();
+        }
+        accepted
+    };
+    best(runs, || oracles.iter_mut().map(solve).collect())
+}
+
+/// The ordinary small networks that fit the solve program's image, all together: by the program's route, and by the plan's, which is dense.
+fn small(runs: usize) -> Vec<Solve> {
     let fits = |net: &Network| net.n <= 64 && 52 + 48 * (net.b + net.e) + 24 * net.m <= 16384;
     let cases: Vec<_> = (64..).map(|number| generate(1, number)).filter(|c| ["block", "strip"].contains(&c.kind) && fits(&c.net)).take(1000).collect();
     let mut oracles: Vec<Oracle> = cases.iter().map(|case| Oracle::new(&case.net.view())).collect();
-    let (time, _) = best(runs, || {
-        for oracle in &mut oracles {
-            oracle.sums();
-            oracle.assemble();
-            let anchor = oracle.anchor();
-            if oracle.iterative(anchor).is_err() {
-                let _ = oracle.dense(anchor);
-            }
-            oracle.recover();
+    let mut solves = Vec::new();
+    for (route, limit) in [(3, 48), (1, 256)] {
+        let (planned, _) = every(&mut oracles, runs, |oracle| oracle.by_plan().is_ok());
+        let (free, accepted) = every(&mut oracles, runs, |oracle| oracle.reduced(route, limit).is_ok());
+        let mut ports: Vec<Port> = cases.iter().map(|case| Port::new(&case.net, route, limit)).collect();
+        let (port, numbers) = best(runs, || ports.iter_mut().map(|port| port.solve(route, limit)).collect::<Vec<usize>>());
+        for ((oracle, port), (accepted, number)) in oracles.iter().zip(&ports).zip(accepted.iter().zip(numbers)) {
+            assert!(*accepted == (number == 0), "a small network's answer differs");
+            assert!(!accepted || same(&port.cameras, &oracle.trial_cameras()), "a small network's placement differs");
         }
-    });
-    #[cfg(not(port))]
-    let lent = None;
-    #[cfg(port)]
-    let lent = {
-        let mut ports: Vec<_> = cases.iter().map(|case| port::Port::new(&case.net, 3, 48)).collect();
-        Some(best(runs, || ports.iter_mut().map(|port| port.solve(3, 48)).sum::<usize>()).0)
-    };
-    line("1000 small networks", "solve, route 3, limit 48", time, lent, "blocks and strips, 1 to 64 cameras");
+        let name = format!("1,000 networks of 1 to 64 cameras, route {route}");
+        solves.push(Solve::new(&name, [free, planned, port], 0, "by its plan dense".to_string()));
+    }
+    solves
 }
 
 /// How fast numbers come in, in GB/s: a sum over `count` doubles, again and again, by eight chains.
@@ -251,23 +363,53 @@ fn bytes_a_round(net: &Network) -> f64 {
     (8 * net.b + 24 * (net.b + net.e) + 16 * net.m) as f64
 }
 
+/// The kinds of full-size networks that are timed.
+const FULL: [usize; 6] = [0, 1, 2, 3, 6, 4];
+
+/// Every network once.
+fn pass(runs: usize) -> (Vec<Solve>, Vec<Calls>) {
+    let (mut solves, mut others) = (Vec::new(), Vec::new());
+    for kind in FULL {
+        let case = full(1, kind);
+        let (solved, cameras) = solve(case.kind, &case.net, 2, 0, runs);
+        solves.push(solved);
+        others.push(calls(case.kind, &case.net, &cameras, runs.max(3)));
+    }
+    let net = block_of(1, 257, 4096, 1024);
+    solves.push(solve("n=257, route 3", &net, 3, 256, runs.max(3)).0);
+    let (solved, cameras) = solve("n=257, route 1 (dense)", &net, 1, 256, runs.max(3));
+    solves.push(solved);
+    others.push(calls("n=257", &net, &cameras, runs.max(3)));
+    solves.extend(small(runs.max(3)));
+    (solves, others)
+}
+
 fn main() {
     let quick = std::env::args().any(|a| a == "--quick");
-    let runs = if quick { 1 } else { 3 };
-    println!("| network | stage | oracle, ms | port, ms | oracle / port | |");
-    println!("|---|---|---|---|---|---|");
-    for kind in 0..5 {
-        let case = full(1, kind);
-        table(case.kind, &case.net, 2, 0, runs);
+    let (passes, runs) = if quick { (1, 1) } else { (3, 3) };
+    let (mut solves, mut others) = pass(runs);
+    for _ in 1..passes {
+        let (again, calls) = pass(runs);
+        solves.iter_mut().zip(again).for_each(|(solve, pass)| solve.join(pass));
+        others.iter_mut().zip(calls).for_each(|(call, pass)| call.join(pass));
     }
-    let dense = block_of(1, 257, 4096, 1024);
-    table("dense, n=257", &dense, 1, 256, runs);
-    small(runs.max(3));
+    println!("Milliseconds, the least of {passes} x {runs} runs; in brackets the ratios of single passes.\n");
+    println!("| solve | Rust, matrix-free | Rust, by its plan | port | matrix-free / port | by its plan / port | |");
+    println!("|---|---|---|---|---|---|---|");
+    solves.iter().for_each(Solve::print);
+    println!("\n| network | dots, Rust / port | scales, Rust / port | connectivity, Rust / port | port: tests 1 to 8 alone | port: tests, sums, assembly, clearing |");
+    println!("|---|---|---|---|---|---|");
+    others.iter().for_each(Calls::print);
+    println!("\n| network | Rust: sums and assembly | the same with couplings | couplings compiled, once | points |");
+    println!("|---|---|---|---|---|");
+    others.iter().for_each(Calls::print_stages);
     let (near, far) = (bandwidth(1 << 20, 20), bandwidth(1 << 25, 5));
-    println!("\nnumbers come in at {near:.1} GB/s from 8 MB and at {far:.1} GB/s from 256 MB");
-    for kind in 0..5 {
-        let case = full(1, kind);
-        let bytes = bytes_a_round(&case.net);
-        println!("{}: {:.2} MB a round, {:.3} ms at the former", case.kind, bytes / 1e6, bytes / near / 1e6);
+    println!("\nNumbers come in at {near:.1} GB/s from 8 MB and at {far:.1} GB/s from 256 MB.\n");
+    println!("| network | read in a round, MB | at the former, ms | a round of the port (solve / rounds), ms |");
+    println!("|---|---|---|---|");
+    for (kind, solve) in FULL.iter().zip(&solves) {
+        let megabytes = bytes_a_round(&full(1, *kind).net) / 1e6;
+        let round = solve.times[2].as_secs_f64() * 1e3 / solve.rounds as f64;
+        println!("| {} | {megabytes:.1} | {:.2} | {round:.2} |", solve.name, megabytes / near);
     }
 }

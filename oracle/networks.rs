@@ -1,6 +1,8 @@
 //! Networks of every kind, each from a seed and a number, the same on every run. (Powers of ten are the platform's `pow`: another
 //! library may draw other last bits, and so meet a rare class at another number.)
 
+use std::collections::BTreeSet;
+
 /// A network that owns its slices, in the port's layout.
 #[derive(Clone, Debug, Default)]
 pub struct Network {
@@ -869,7 +871,7 @@ fn drawn(seed: u64, number: u64) -> Case {
     Case { kind, net, route, limit, cameras }
 }
 
-/// A block of n cameras, each point seen by four of them, with as many directions as asked.
+/// A block of n cameras, each point seen by four of them, with as many directions as asked, no pair twice.
 pub fn block_of(seed: u64, n: usize, m: usize, e: usize) -> Network {
     let r = &mut Random::new(seed, (1 << 42) + n as u64);
     let cameras = cloud(r, n, 50.0);
@@ -877,19 +879,31 @@ pub fn block_of(seed: u64, n: usize, m: usize, e: usize) -> Network {
     let style = Style { sight: Sight::True, weighing: Weighing::Ordinary, scaling: Scaling::Depth, zeros: 0 };
     let mut maker = Maker::new(r, style, cameras, points);
     for point in 0..m {
-        for _ in 0..4 {
+        let mut seen = Vec::new();
+        while seen.len() < 4 {
             let camera = maker.random.below(n);
-            maker.bearing(camera, point);
+            if !seen.contains(&camera) {
+                seen.push(camera);
+                maker.bearing(camera, point);
+            }
         }
     }
-    maker.ties(0, n, e);
+    let mut tied = BTreeSet::new();
+    while tied.len() < e {
+        let (source, target) = (maker.random.below(n), maker.random.below(n));
+        if source != target && tied.insert((source.min(target), source.max(target))) {
+            maker.direction(source, target);
+        }
+    }
     maker.finish(false, 0)
 }
 
 /// Number of kinds of full-size cases.
-pub const FULL_KINDS: usize = 6;
+pub const FULL_KINDS: usize = 7;
 
-/// A case at the limits: n=4096, m=65,536, B=262,144; E=0 or 65,536; a block, a long strip, or directions only.
+/// A case at the limits: n=4096, m=65,536, B=262,144; E=0 or 65,536; a block, a long strip, or directions only. In the blocks and
+/// at the end of the strip some points have a camera twice, and pairs of cameras have several directions (the strip's each 16), but
+/// in the last kind.
 pub fn full(seed: u64, kind: usize) -> Case {
     let r = &mut Random::new(seed, 1 << 40 | kind as u64);
     let n = 4096;
@@ -900,6 +914,7 @@ pub fn full(seed: u64, kind: usize) -> Case {
         ("full strip, E=65536", true, 65536, 65536),
         ("full directions", false, 0, 65536),
         ("full anything", false, 65536, 65536),
+        ("full strip, E=65536, no pair twice", true, 65536, 65536),
     ][kind];
     let cameras = if long { line(r, n) } else { cloud(r, n, 50.0) };
     let points: Vec<[f64; 3]> = (0..m)
@@ -913,12 +928,19 @@ pub fn full(seed: u64, kind: usize) -> Case {
     let mut maker = Maker::new(r, style, cameras, points);
     for point in 0..m {
         for sight in 0..4 {
-            let camera = if long { (point / 16 + sight).min(n - 1) } else { maker.random.below(n) };
+            let camera = match kind {
+                6 => (point / 16).min(n - 4) + sight,
+                _ if long => (point / 16 + sight).min(n - 1),
+                _ => maker.random.below(n),
+            };
             maker.bearing(camera, point);
         }
     }
     for index in 0..e {
-        if long {
+        if kind == 6 {
+            let source = index % (n - 17);
+            maker.direction(source, source + 1 + index / (n - 17));
+        } else if long {
             let source = index % (n - 1);
             maker.direction(source, source + 1);
         } else {

@@ -26,8 +26,22 @@ patch("mod.rs",
       "mod workspace;\npub mod harness;\nmod tag;\n")
 
 # Functions private to solve.rs that the harness calls: they become visible in the kernel module, no more.
-for name in ["update_point_statistics", "recover_trial_points", "update_trial_dots", "update_trial_scales", "pick_anchor"]:
+for name in ["update_point_statistics", "recover_trial_points", "update_trial_dots", "update_trial_scales", "pick_anchor", "solve_reduced"]:
     patch("solve.rs", f"\nfn {name}(", f"\npub(super) fn {name}(")
+
+# The same of what the plan compiles where it turns materialized couplings on, for the benchmark.
+patch("plan.rs", "\nfn compile_couplings(", "\npub(super) fn compile_couplings(")
+patch("plan.rs",
+      "\nstruct CompiledCouplings {\n"
+      "    endpoints: Vec<(usize, usize)>,\n"
+      "    point_pair_offsets: Vec<usize>,\n"
+      "    point_pair_slots: Vec<usize>,\n"
+      "    direction_slots: Vec<usize>,\n",
+      "\npub(super) struct CompiledCouplings {\n"
+      "    pub(super) endpoints: Vec<(usize, usize)>,\n"
+      "    pub(super) point_pair_offsets: Vec<usize>,\n"
+      "    pub(super) point_pair_slots: Vec<usize>,\n"
+      "    pub(super) direction_slots: Vec<usize>,\n")
 
 # Refusal 9 (the diagonal is not finite) and 10 (finite and not above 0), at the camera: one test in the text.
 patch("pcg.rs",
