@@ -5,6 +5,7 @@ use mathlib.Core.Bool.{true}
 use mathlib.Core.List.{List}
 use lib.ListN.{length}
 use lib.Ieee.{Float}
+use Rattle.field.specs.Buffer.{vectorsIn}
 use Rattle.network.specs.declared.Refusal.{Refusal}
 use Rattle.network.specs.declared.Shape.{Shape}
 use Rattle.network.specs.declared.Verdict.the-variants as tested
@@ -19,7 +20,6 @@ use Rattle.image.specs.declared.Counted.{Counted}
 use Rattle.image.specs.declared.Counted.the-variants.{Refused as NoCounts, Of}
 use Rattle.image.specs.Reading.{shapeAt, contentOf}
 use Rattle.image.specs.Tests.{contentFits, contentSections, countsTests}
-use Rattle.text.specs.Lent.{vectorsOf}
 use Rattle.command.specs.Command.{programTests, refusedLine, placedLines, Solved}
 
 -- an image of at most 16,384 bytes whose counts pass and are those of s
@@ -77,7 +77,7 @@ RefusedAs r = Exactly (Refused r) (refusedLine r)
 -- an answer and its lines, where cs and ps hold the cameras' and points' numbers
 abbrev pub textOf : Shape → (parts : ℕ) → Answer → (cs ps : List Float) → List ℕ
 textOf s parts (Refused r) cs ps = refusedLine r
-textOf s parts (Accepted p) cs ps = placedLines s parts p (vectorsOf cs) (vectorsOf ps)
+textOf s parts (Accepted p) cs ps = placedLines s parts p (vectorsIn cs) (vectorsIn ps)
 
 abbrev pub AnsweredAs : Shape → (parts : ℕ) → Answer → (cs ps : List Float) → Answer → List ℕ → Type 0
 AnsweredAs s parts x cs ps = Exactly x (textOf s parts x cs ps)
