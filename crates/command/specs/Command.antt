@@ -1,7 +1,7 @@
 -- What the solve program answers and prints (document 01, 'Network image (added) and the solve program').
-use Prim.Native.Nat.{ℕ, _+_}
+use Prim.Native.Nat.{ℕ}
 use mathlib.Core.Path.{_≡_}
-use mathlib.Core.Bool.{Bool, true}
+use mathlib.Core.Bool.{Bool}
 use mathlib.Core.List.{List, [], _∷_, _++_}
 use lib.ListN.{length}
 use lib.Dec.{ltb}
@@ -11,7 +11,6 @@ use Rattle.network.specs.declared.Verdict.{Verdict}
 use Rattle.network.specs.declared.Verdict.the-variants as tested
 use Rattle.network.specs.declared.Shape.{Shape}
 use Rattle.network.specs.Network.{Graph, graph, Network, network}
-use Rattle.network.specs.Lists.{listsHold}
 use Rattle.network.specs.Refusals.{test, verdict}
 use Rattle.graph.specs.Outcome.{Labelled}
 use Rattle.graph.specs.Distinct.{distinct}
@@ -21,6 +20,7 @@ use Rattle.placement.specs.declared.Answer.the-variants.{Refused}
 use Rattle.placement.specs.declared.Report.{Report}
 use Rattle.placement.specs.Routes.{Placement, rejected, failing, placed, routed}
 use Rattle.placement.specs.Solved.{answerOf}
+use Rattle.lists.specs.PointLists.{offsetsOf, listedOf}
 use Rattle.layout.specs.Image.{Content}
 use Rattle.image.specs.Reading.{shapeAt, contentOf}
 use Rattle.image.specs.Tests.{countsTests, rowTests}
@@ -57,9 +57,12 @@ refusedLine r = refusedText (r .number) (r .place)
 abbrev pub graphOf : Content → Graph
 graphOf c = graph (c .shape) (c .ends) (c .weights)
 
--- a content with its point lists
-abbrev pub networkOf : Content → List ℕ → List ℕ → Network
-networkOf c offsets listed = network (c .shape) (c .ends) (c .rays) (c .weights) (c .scales) (c .positions) offsets listed
+-- 'builds the point lists': a content with the lists of its rows. Refusal 6 admits these: `sorted-holds` of crates/lists.
+abbrev pub networkOf : Content → Network
+networkOf c =
+    let m = c .shape .points in
+    let b = c .shape .bearings in
+    network (c .shape) (c .ends) (c .rays) (c .weights) (c .scales) (c .positions) (offsetsOf (c .ends) b m) (listedOf (c .ends) b m)
 
 -- 'uses route 3 with dense limit 48'
 abbrev pub ending : Network → Placement
@@ -76,28 +79,23 @@ lines net parts (rejected r) = refusedLine r
 lines net parts (failing r) = refusedLine r
 lines net parts (placed p cameras) = placedLines (net .shape) parts p cameras (pointsOf net cameras)
 
--- 'builds the point lists': those that keep the rule, m + 1 offsets and B row numbers. No others do.
-pub record PointLists (s : Shape) (ends offsets listed : List ℕ) : Type 0 where
-  pub rule : listsHold (s .points) (s .bearings) ends offsets listed ≡ true
-  pub offsetCount : length offsets ≡ s .points + 1
-  pub listedCount : length listed ≡ s .bearings
-
--- An image that no test refuses, with the content c: the answer and the text. The point lists and the labels are fixed by c.
-pub record Solved (c : Content) (answer : Answer) (text : List ℕ) : Type 0 where
-  pub offsets : List ℕ
-  pub listed : List ℕ
-  pub lists : PointLists (c .shape) (c .ends) offsets listed
+-- An image that no test refuses, with the content c: the answer and the text. There is one list of labels: `labelled-unique` of crates/graph.
+pub record ImageSolved (c : Content) (answer : Answer) (text : List ℕ) : Type 0 where
   pub labels : List ℕ
   pub labelled : Labelled (graphOf c) labels
-  pub answered : answer ≡ answerOf (ending (networkOf c offsets listed))
-  pub printed : text ≡ lines (networkOf c offsets listed) (distinct labels) (ending (networkOf c offsets listed))
+  pub answered : answer ≡ answerOf (ending (networkOf c))
+  pub printed : text ≡ lines (networkOf c) (distinct labels) (ending (networkOf c))
 
 -- ---- the whole program
 
--- of the bytes of its input: the answer and the text that it prints
+-- Of the bytes of its input: the answer and the text that it prints. The bytes alone fix both: `OutcomeUnique`.
 pub record Outcome (bytes : List ℕ) (answer : Answer) (text : List ℕ) : Type 0 where
   pub refused : (r : Refusal) → verdict (programTests bytes) ≡ tested.Refused r → (answer ≡ Refused r) × (text ≡ refusedLine r)
-  pub passed : verdict (programTests bytes) ≡ tested.Passed → Solved (contentOf bytes) answer text
+  pub passed : verdict (programTests bytes) ≡ tested.Passed → ImageSolved (contentOf bytes) answer text
+
+-- proved in proofs/Unique.antt: `outcome-unique`
+pub record OutcomeUnique : Type 0 where
+  pub holds : (bytes : List ℕ) (a b : Answer) (t u : List ℕ) → Outcome bytes a t → Outcome bytes b u → (a ≡ b) × (t ≡ u)
 
 -- The answer and some text are such that P holds of them.
 -- The text stands at the front of the buffer, all of it, and every byte after it is as it was.
