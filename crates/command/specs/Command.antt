@@ -15,10 +15,12 @@ use Rattle.network.specs.Refusals.{test, verdict}
 use Rattle.graph.specs.Outcome.{Labelled}
 use Rattle.graph.specs.Distinct.{distinct}
 use Rattle.recover.specs.Recover.{pointsOf}
+use Rattle.iterative.specs.Reduced.{problem}
+use Rattle.iterative.specs.Accepted.{Accepted as Meaning}
 use Rattle.placement.specs.declared.Answer.{Answer}
-use Rattle.placement.specs.declared.Answer.the-variants.{Refused}
+use Rattle.placement.specs.declared.Answer.the-variants.{Refused, Accepted}
 use Rattle.placement.specs.declared.Report.{Report}
-use Rattle.placement.specs.Routes.{Placement, rejected, failing, placed, routed}
+use Rattle.placement.specs.Routes.{Placement, rejected, failing, placed, report, routed}
 use Rattle.placement.specs.Solved.{answerOf}
 use Rattle.lists.specs.PointLists.{offsetsOf, listedOf}
 use Rattle.layout.specs.Image.{Content}
@@ -79,12 +81,22 @@ lines net parts (rejected r) = refusedLine r
 lines net parts (failing r) = refusedLine r
 lines net parts (placed p cameras) = placedLines (net .shape) parts p cameras (pointsOf net cameras)
 
+-- Demand 3, of the cameras that are printed: the text has the bits of cameras for which `Meaning` has a field for each clause of the demand, with the
+-- anchor a and the k rounds that it reports. (`problem` is the system that the network forms.)
+pub record CamerasMeant (net : Network) (parts a k : ℕ) (text : List ℕ) : Type 0 where
+  pub cameras : List Vec3
+  pub printed : text ≡ placedLines (net .shape) parts (report a 2 k) cameras (pointsOf net cameras)
+  pub anchor : a ≡ problem net .anchor
+  pub meaning : Meaning (problem net) cameras k
+
 -- An image that no test refuses, with the content c: the answer and the text. There is one list of labels: `labelled-unique` of crates/graph.
 pub record ImageSolved (c : Content) (answer : Answer) (text : List ℕ) : Type 0 where
   pub labels : List ℕ
   pub labelled : Labelled (graphOf c) labels
   pub answered : answer ≡ answerOf (ending (networkOf c))
   pub printed : text ≡ lines (networkOf c) (distinct labels) (ending (networkOf c))
+  -- where the iterative part answered (`anchor A route 2 rounds K`)
+  pub meaning : (a k : ℕ) → answer ≡ Accepted (report a 2 k) → CamerasMeant (networkOf c) (distinct labels) a k text
 
 -- ---- the whole program
 
