@@ -1,7 +1,9 @@
 -- The bytes of the input fix the answer and the text. Assumes nothing.
-use mathlib.Core.Path.{_≡_, refl, sym, ap, _∙_}
+use mathlib.Core.Path.{_≡_, refl, sym, ap, ap₂, _∙_}
 use mathlib.Core.List.{List}
-use Prim.Native.Nat.{ℕ}
+use Prim.Native.Nat.{ℕ, _+_}
+use lib.ListN.{length}
+use Rattle.field.specs.Buffer.{write}
 use Rattle.network.specs.declared.Verdict.{Verdict}
 use Rattle.network.specs.declared.Verdict.the-variants as tested
 use Rattle.network.specs.Refusals.{verdict}
@@ -9,7 +11,8 @@ use Rattle.graph.specs.Distinct.{distinct}
 use Rattle.graph.proofs.Unique.{labelled-unique}
 use Rattle.placement.specs.declared.Answer.{Answer}
 use Rattle.layout.specs.Image.{Content}
-use Rattle.command.specs.Command.{graphOf, networkOf, ending, lines, programTests, ImageSolved, Outcome, OutcomeUnique}
+use Rattle.command.specs.declared.Printed.{Printed}
+use Rattle.command.specs.Command.{graphOf, networkOf, ending, lines, programTests, ImageSolved, Outcome, OutcomeUnique, Prints, RunUnique}
 
 solved-unique : (c : Content) (a b : Answer) (t u : List ℕ) → ImageSolved c a t → ImageSolved c b u → (a ≡ b) × (t ≡ u)
 solved-unique c a b t u s r =
@@ -25,3 +28,14 @@ by-verdict l a b t u s r tested.Passed e = solved-unique _ a b t u (s .passed e)
 
 pub outcome-unique : OutcomeUnique
 outcome-unique = record { holds = λ l a b t u s r. by-verdict l a b t u s r (verdict (programTests l)) refl }
+
+prints-unique : (l b : List ℕ) (r s : Printed) (x y : List ℕ) → Prints (Outcome l) r b x → Prints (Outcome l) s b y → (r ≡ s) × (x ≡ y)
+prints-unique l b r s x y p q =
+    let u = outcome-unique .holds l (r .answer) (s .answer) (p .text) (q .text) (p .holds) (q .holds) in
+    let n : r .length ≡ s .length = p .put .written .next ∙ ap (λ t. 0 + length t) (u .1) ∙ sym (q .put .written .next) in (
+      ap₂ (λ (a : Answer) (k : ℕ). record { answer = a; length = k }) (u .0) n,
+      p .put .written .bytes ∙ ap (write b 0) (u .1) ∙ sym (q .put .written .bytes),
+    )
+
+pub run-unique : RunUnique
+run-unique = record { holds = prints-unique }

@@ -115,3 +115,8 @@ pub record Prints (P : Answer → List ℕ → Type 0) (r : Printed) (buffer buf
   pub text : List ℕ
   pub put : Put buffer buffer' 0 text 65536 (r .length)
   pub holds : P (r .answer) text
+
+-- So the bytes and what the buffer held fix what `run` answers and what it leaves there: proved in proofs/Unique.antt, `run-unique`.
+pub record RunUnique : Type 0 where
+  pub holds : (bytes buffer : List ℕ) (r s : Printed) (x y : List ℕ) → Prints (Outcome bytes) r buffer x → Prints (Outcome bytes) s buffer y →
+      (r ≡ s) × (x ≡ y)
