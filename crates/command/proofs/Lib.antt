@@ -3,3 +3,4 @@ pub mod Counting
 pub mod Passing
 pub mod Placed
 pub mod Outcomes
+pub mod Unique

@@ -26,7 +26,7 @@ use Rattle.image.specs.Calls.{countsIf, countsOf, after, lists, readVerdict, Re
 use Rattle.image.proofs.Domain.{length-wholes-from, length-doubles-from}
 use Rattle.image.proofs.Passing.{counted-sound}
 use Rattle.command.specs.declared.Printed.{Printed}
-use Rattle.command.specs.Command.{tooLong, tooMany, programTests, refusedLine, Solved, Outcome, Prints}
+use Rattle.command.specs.Command.{tooLong, tooMany, programTests, refusedLine, ImageSolved, Outcome, Prints}
 use Rattle.command.specs.inner.Steps.{CountsPassed, Small, ContentSound, ReadAs, RefusedAs}
 use Rattle.command.proofs.Printing.{prints-as}
 use Rattle.command.proofs.Passing.{fits, skipped, lengths-fit}
@@ -51,7 +51,7 @@ outcome-refused l x e a t h = record {
   passed = λ q. absurd (refused-passed x (sym e ∙ q));
 }
 
-outcome-passed : (l : List ℕ) → verdict (programTests l) ≡ tested.Passed → (a : Answer) (t : List ℕ) → Solved (contentOf l) a t → Outcome l a t
+outcome-passed : (l : List ℕ) → verdict (programTests l) ≡ tested.Passed → (a : Answer) (t : List ℕ) → ImageSolved (contentOf l) a t → Outcome l a t
 outcome-passed l e a t h = record { refused = λ r q. absurd (refused-passed r (sym q ∙ e)); passed = λ q. h }
 
 -- ---- the length
@@ -174,5 +174,5 @@ module _ (l : List ℕ) (x : Counted) (s : Shape) (es : List ℕ) (rs ws ss ps :
     pub read-sound : ContentSound (content s es rs ws ss ps)
     read-sound = R .passed t f .2
 
-    pub run-solved : {r : Printed} {out out' : List ℕ} → Prints (Solved (content s es rs ws ss ps)) r out out' → Prints (Outcome l) r out out'
-    run-solved = prints-as (λ a t' q. outcome-passed l (R .passed t f .0) a t' (subst (λ (c : Content). Solved c a t') (R .passed t f .1) q))
+    pub run-solved : {r : Printed} {out out' : List ℕ} → Prints (ImageSolved (content s es rs ws ss ps)) r out out' → Prints (Outcome l) r out out'
+    run-solved = prints-as (λ a t' q. outcome-passed l (R .passed t f .0) a t' (subst (λ (c : Content). ImageSolved c a t') (R .passed t f .1) q))

@@ -20,12 +20,8 @@ use Rattle.network.specs.inner.Sound.{ContentLengths, EndsSound}
 use Rattle.network.proofs.Verdicts.{verdict-one, passed-test-at, both-passed, passes-in}
 use Rattle.network.proofs.Sound.{counts-sound, content-fits, ends-sound, row-domain, domain-sound}
 use Rattle.lists.specs.PointLists.{lengthsFit, pastPoints, pointListsTests, PointListsCall}
-use Rattle.lists.proofs.Holding.{call-holds}
-use Rattle.lists.proofs.Entries.{lists-passed}
-use Rattle.lists.proofs.Sorting.{offsets-table, listed-placed}
 use Rattle.layout.specs.Image.{content}
-use Rattle.command.specs.Command.{PointLists}
-use Rattle.command.specs.inner.Steps.{ContentSound, GraphPassed}
+use Rattle.command.specs.inner.Steps.{ContentSound, Listed, GraphPassed}
 
 pub fits : {fit : Bool} → fit ≡ true → verdict (lengthTests fit) ≡ Passed
 unfolding lengthTests test
@@ -80,13 +76,5 @@ module _ (s : Shape) (es : List ℕ) (E : EndsSound s es) where
         (fits (ap₂ _&&_ (le-leb _ _ room) (ap₂ _&&_ (eq-eqb _ _ (sizes .0)) (eq-eqb _ _ (sizes .1)))))
         (verdict-one _ ∙ passed-test-at 4 past-none)
 
-    pub lists-built : PointLists s es offsets' listed'
-    lists-built =
-        let a : answer ≡ Passed = call .answered ∙ list-passed in
-        let passed = rw a at call in
-        let R = lists-passed (length offsets) (length listed) (call .answered) a .0 in
-        record {
-          rule = call-holds (s .points) (s .bearings) es offsets listed offsets' listed' passed;
-          offsetCount = rw (passed .offsetsOut) (offsets-table es (s .bearings) (s .points) .size);
-          listedCount = rw (passed .listedOut) (listed-placed R .size);
-        }
+    pub lists-built : Listed s es offsets' listed'
+    lists-built = let a : answer ≡ Passed = call .answered ∙ list-passed in record { starts = rw a at (call .offsetsOut); rows = rw a at (call .listedOut) }

@@ -7,14 +7,14 @@ use lib.ListN.{length}
 use lib.Ieee.{Float}
 use borrow.Author.Tests.{le-leb}
 use Rattle.field.specs.declared.Vec3.{Vec3}
-use Rattle.field.specs.Buffer.{flat, vector}
+use Rattle.field.specs.Buffer.{flat, vector, vectorsIn}
 use Rattle.field.proofs.Buffers.{length-write, vector-lawful, length-flat, load-flat}
 use Rattle.network.specs.declared.Refusal.{Refusal}
 use Rattle.network.specs.declared.Shape.{Shape}
 use Rattle.placement.specs.declared.Answer.{Answer}
 use Rattle.placement.specs.declared.Answer.the-variants.{Refused, Accepted}
 use Rattle.placement.specs.declared.Report.{Report}
-use Rattle.text.specs.Lent.{Put, room, PutIfRoom, vectorsOf}
+use Rattle.text.specs.Lent.{Put, room, PutIfRoom}
 use Rattle.command.specs.declared.Printed.{Printed}
 use Rattle.command.specs.Command.{refusedLine, placedLines, Prints}
 use Rattle.command.specs.inner.Steps.{RefusedAs, AnsweredAs}
@@ -28,10 +28,10 @@ pub refusal-printed : (x : Refusal) (out out' : List ℕ) {r : ℕ} → PutIfRoo
 refusal-printed x out out' p e = record { text = refusedLine x; put = put-fits 0 e (omega arith) p; holds = record { answered = refl; printed = refl } }
 
 pub report-printed : (s : Shape) (k : ℕ) (p : Report) (cs ps : List Float) (out out' : List ℕ) {r : ℕ} →
-    PutIfRoom out out' (length cs / 3 + length ps / 3) (placedLines s k p (vectorsOf cs) (vectorsOf ps)) r → length out ≡ 65536 → (length cs ≤ 192) × (length ps ≤ 2040) →
+    PutIfRoom out out' (length cs / 3 + length ps / 3) (placedLines s k p (vectorsIn cs) (vectorsIn ps)) r → length out ≡ 65536 → (length cs ≤ 192) × (length ps ≤ 2040) →
     Prints (AnsweredAs s k (Accepted p) cs ps) (record { answer = Accepted p; length = r }) out out'
 report-printed s k p cs ps out out' q e h = record {
-  text = placedLines s k p (vectorsOf cs) (vectorsOf ps);
+  text = placedLines s k p (vectorsIn cs) (vectorsIn ps);
   put = put-fits (length cs / 3 + length ps / 3) e (omega arith) q;
   holds = record { answered = refl; printed = refl };
 }
@@ -45,8 +45,8 @@ module _ (s : Shape) (k : ℕ) (x : Answer) (cs ps : List Float) {r : Printed} {
   accepted-printed p e h = rw e h
 
 -- the vectors of their numbers
-pub vectors-flat : (f : List Vec3) → vectorsOf (flat vector f) ≡ f
-unfolding vectorsOf
+pub vectors-flat : (f : List Vec3) → vectorsIn (flat vector f) ≡ f
+unfolding vectorsIn
 vectors-flat f =
     let e : length (flat vector f) / 3 ≡ length f = omega (arith, length-flat vector vector-lawful f) in
     rw e (load-flat vector vector-lawful f (length f) refl)

@@ -1,7 +1,7 @@
 -- What the solve program answers and prints (document 01, 'Network image (added) and the solve program').
-use Prim.Native.Nat.{ℕ, _+_}
+use Prim.Native.Nat.{ℕ}
 use mathlib.Core.Path.{_≡_}
-use mathlib.Core.Bool.{Bool, true}
+use mathlib.Core.Bool.{Bool}
 use mathlib.Core.List.{List, [], _∷_, _++_}
 use lib.ListN.{length}
 use lib.Dec.{ltb}
@@ -11,16 +11,18 @@ use Rattle.network.specs.declared.Verdict.{Verdict}
 use Rattle.network.specs.declared.Verdict.the-variants as tested
 use Rattle.network.specs.declared.Shape.{Shape}
 use Rattle.network.specs.Network.{Graph, graph, Network, network}
-use Rattle.network.specs.Lists.{listsHold}
 use Rattle.network.specs.Refusals.{test, verdict}
 use Rattle.graph.specs.Outcome.{Labelled}
 use Rattle.graph.specs.Distinct.{distinct}
 use Rattle.recover.specs.Recover.{pointsOf}
+use Rattle.iterative.specs.Reduced.{problem}
+use Rattle.iterative.specs.Accepted.{Accepted as Meaning}
 use Rattle.placement.specs.declared.Answer.{Answer}
-use Rattle.placement.specs.declared.Answer.the-variants.{Refused}
+use Rattle.placement.specs.declared.Answer.the-variants.{Refused, Accepted}
 use Rattle.placement.specs.declared.Report.{Report}
-use Rattle.placement.specs.Routes.{Placement, rejected, failing, placed, routed}
+use Rattle.placement.specs.Routes.{Placement, rejected, failing, placed, report, routed}
 use Rattle.placement.specs.Solved.{answerOf}
+use Rattle.lists.specs.PointLists.{offsetsOf, listedOf}
 use Rattle.layout.specs.Image.{Content}
 use Rattle.image.specs.Reading.{shapeAt, contentOf}
 use Rattle.image.specs.Tests.{countsTests, rowTests}
@@ -57,9 +59,12 @@ refusedLine r = refusedText (r .number) (r .place)
 abbrev pub graphOf : Content → Graph
 graphOf c = graph (c .shape) (c .ends) (c .weights)
 
--- a content with its point lists
-abbrev pub networkOf : Content → List ℕ → List ℕ → Network
-networkOf c offsets listed = network (c .shape) (c .ends) (c .rays) (c .weights) (c .scales) (c .positions) offsets listed
+-- 'builds the point lists': a content with the lists of its rows. Refusal 6 admits these: `sorted-holds` of crates/lists.
+abbrev pub networkOf : Content → Network
+networkOf c =
+    let m = c .shape .points in
+    let b = c .shape .bearings in
+    network (c .shape) (c .ends) (c .rays) (c .weights) (c .scales) (c .positions) (offsetsOf (c .ends) b m) (listedOf (c .ends) b m)
 
 -- 'uses route 3 with dense limit 48'
 abbrev pub ending : Network → Placement
@@ -76,28 +81,33 @@ lines net parts (rejected r) = refusedLine r
 lines net parts (failing r) = refusedLine r
 lines net parts (placed p cameras) = placedLines (net .shape) parts p cameras (pointsOf net cameras)
 
--- 'builds the point lists': those that keep the rule, m + 1 offsets and B row numbers. No others do.
-pub record PointLists (s : Shape) (ends offsets listed : List ℕ) : Type 0 where
-  pub rule : listsHold (s .points) (s .bearings) ends offsets listed ≡ true
-  pub offsetCount : length offsets ≡ s .points + 1
-  pub listedCount : length listed ≡ s .bearings
+-- Demand 3, of the cameras that are printed: the text has the bits of cameras for which `Meaning` has a field for each clause of the demand, with the
+-- anchor a and the k rounds that it reports. (`problem` is the system that the network forms.)
+pub record CamerasMeant (net : Network) (parts a k : ℕ) (text : List ℕ) : Type 0 where
+  pub cameras : List Vec3
+  pub printed : text ≡ placedLines (net .shape) parts (report a 2 k) cameras (pointsOf net cameras)
+  pub anchor : a ≡ problem net .anchor
+  pub meaning : Meaning (problem net) cameras k
 
--- An image that no test refuses, with the content c: the answer and the text. The point lists and the labels are fixed by c.
-pub record Solved (c : Content) (answer : Answer) (text : List ℕ) : Type 0 where
-  pub offsets : List ℕ
-  pub listed : List ℕ
-  pub lists : PointLists (c .shape) (c .ends) offsets listed
+-- An image that no test refuses, with the content c: the answer and the text. There is one list of labels: `labelled-unique` of crates/graph.
+pub record ImageSolved (c : Content) (answer : Answer) (text : List ℕ) : Type 0 where
   pub labels : List ℕ
   pub labelled : Labelled (graphOf c) labels
-  pub answered : answer ≡ answerOf (ending (networkOf c offsets listed))
-  pub printed : text ≡ lines (networkOf c offsets listed) (distinct labels) (ending (networkOf c offsets listed))
+  pub answered : answer ≡ answerOf (ending (networkOf c))
+  pub printed : text ≡ lines (networkOf c) (distinct labels) (ending (networkOf c))
+  -- where the iterative part answered (`anchor A route 2 rounds K`)
+  pub meaning : (a k : ℕ) → answer ≡ Accepted (report a 2 k) → CamerasMeant (networkOf c) (distinct labels) a k text
 
 -- ---- the whole program
 
--- of the bytes of its input: the answer and the text that it prints
+-- Of the bytes of its input: the answer and the text that it prints. The bytes alone fix both: `OutcomeUnique`.
 pub record Outcome (bytes : List ℕ) (answer : Answer) (text : List ℕ) : Type 0 where
   pub refused : (r : Refusal) → verdict (programTests bytes) ≡ tested.Refused r → (answer ≡ Refused r) × (text ≡ refusedLine r)
-  pub passed : verdict (programTests bytes) ≡ tested.Passed → Solved (contentOf bytes) answer text
+  pub passed : verdict (programTests bytes) ≡ tested.Passed → ImageSolved (contentOf bytes) answer text
+
+-- proved in proofs/Unique.antt: `outcome-unique`
+pub record OutcomeUnique : Type 0 where
+  pub holds : (bytes : List ℕ) (a b : Answer) (t u : List ℕ) → Outcome bytes a t → Outcome bytes b u → (a ≡ b) × (t ≡ u)
 
 -- The answer and some text are such that P holds of them.
 -- The text stands at the front of the buffer, all of it, and every byte after it is as it was.
@@ -105,3 +115,8 @@ pub record Prints (P : Answer → List ℕ → Type 0) (r : Printed) (buffer buf
   pub text : List ℕ
   pub put : Put buffer buffer' 0 text 65536 (r .length)
   pub holds : P (r .answer) text
+
+-- So the bytes and what the buffer held fix what `run` answers and what it leaves there: proved in proofs/Unique.antt, `run-unique`.
+pub record RunUnique : Type 0 where
+  pub holds : (bytes buffer : List ℕ) (r s : Printed) (x y : List ℕ) → Prints (Outcome bytes) r buffer x → Prints (Outcome bytes) s buffer y →
+      (r ≡ s) × (x ≡ y)

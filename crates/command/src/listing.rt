@@ -8,14 +8,14 @@ ghost use Prim.Native.Nat.{_+_};
 ghost use lib.ListN.{length};
 ghost use Rattle.network.specs.inner.Sound.{EndsSound};
 ghost use Rattle.layout.specs.Image.{content};
-ghost use Rattle.command.specs.Command.{PointLists, Solved, Prints};
-ghost use Rattle.command.specs.inner.Steps.{Small, ContentSound};
+ghost use Rattle.command.specs.Command.{ImageSolved, Prints};
+ghost use Rattle.command.specs.inner.Steps.{Small, ContentSound, Listed};
 
 // Builds the lists of rows whose ends are in range.
 fn list_rows(s: Shape, ends: &[usize], offsets: &mut [usize], listed: &mut [usize])
     requires { ⌜ EndsSound s (now ends) ⌝ }
     requires { ⌜ (length (now offsets) ≡ s .points + 1) × (length (now listed) ≡ s .bearings) ⌝ }
-    ensures { λ _. ⌜ PointLists s (now (ends .entry)) (now (offsets .exit)) (now (listed .exit)) ⌝ }
+    ensures { λ _. ⌜ Listed s (now (ends .entry)) (now (offsets .exit)) (now (listed .exit)) ⌝ }
 {
     list_points(s.points, s.bearings, ends, offsets, listed);
 }
@@ -36,7 +36,7 @@ fn list(
     requires { ⌜ ContentSound (content s (now ends) (now rays) (now weights) (now scales) (now points)) ⌝ }
     requires { ⌜ (length (now offsets) ≡ s .points + 1) × (length (now listed) ≡ s .bearings) ⌝ }
     ensures { λ r. ⌜ Prints
-        (Solved (content s (now (ends .entry)) (now (rays .entry)) (now (weights .entry)) (now (scales .entry)) (now (points .entry))))
+        (ImageSolved (content s (now (ends .entry)) (now (rays .entry)) (now (weights .entry)) (now (scales .entry)) (now (points .entry))))
         r (now (text .entry)) (now (text .exit)) ⌝ }
 {
     list_rows(s, ends, offsets, listed);
@@ -66,7 +66,7 @@ pub fn place_read(
     requires { ⌜ Small s ⌝ }
     requires { ⌜ ContentSound (content s (now ends) (now rays) (now weights) (now scales) (now points)) ⌝ }
     ensures { λ r. ⌜ Prints
-        (Solved (content s (now (ends .entry)) (now (rays .entry)) (now (weights .entry)) (now (scales .entry)) (now (points .entry))))
+        (ImageSolved (content s (now (ends .entry)) (now (rays .entry)) (now (weights .entry)) (now (scales .entry)) (now (points .entry))))
         r (now (text .entry)) (now (text .exit)) ⌝ }
 {
     let mut offsets = [0usize; 681];

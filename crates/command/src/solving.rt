@@ -6,8 +6,8 @@ use network::Shape;
 use placement::Answer;
 use placement::solve;
 ghost use Rattle.layout.specs.Image.{content};
-ghost use Rattle.command.specs.Command.{PointLists, Solved, Prints};
-ghost use Rattle.command.specs.inner.Steps.{Small, ContentSound, BuffersSized, SolvedAs};
+ghost use Rattle.command.specs.Command.{ImageSolved, Prints};
+ghost use Rattle.command.specs.inner.Steps.{Small, ContentSound, Listed, BuffersSized, SolvedAs};
 
 // The number of parts, and the answer.
 struct Solution {
@@ -31,7 +31,7 @@ fn solve_listed(
 ) -> Solution
     requires { ⌜ BuffersSized s (now work) (now cameras) (now placed) ⌝ }
     requires { ⌜ ContentSound (content s (now ends) (now rays) (now weights) (now scales) (now points)) ⌝ }
-    requires { ⌜ PointLists s (now ends) (now offsets) (now listed) ⌝ }
+    requires { ⌜ Listed s (now ends) (now offsets) (now listed) ⌝ }
     ensures { λ r. ⌜ SolvedAs
         (content s (now (ends .entry)) (now (rays .entry)) (now (weights .entry)) (now (scales .entry)) (now (points .entry)))
         (r .parts) (r .answer) (now (cameras .exit)) (now (placed .exit)) ⌝ }
@@ -72,9 +72,9 @@ fn place(
 ) -> Printed
     requires { ⌜ BuffersSized s (now work) (now cameras) (now placed) ⌝ }
     requires { ⌜ ContentSound (content s (now ends) (now rays) (now weights) (now scales) (now points)) ⌝ }
-    requires { ⌜ PointLists s (now ends) (now offsets) (now listed) ⌝ }
+    requires { ⌜ Listed s (now ends) (now offsets) (now listed) ⌝ }
     ensures { λ r. ⌜ Prints
-        (Solved (content s (now (ends .entry)) (now (rays .entry)) (now (weights .entry)) (now (scales .entry)) (now (points .entry))))
+        (ImageSolved (content s (now (ends .entry)) (now (rays .entry)) (now (weights .entry)) (now (scales .entry)) (now (points .entry))))
         r (now (text .entry)) (now (text .exit)) ⌝ }
 {
     let solved = solve_listed(
@@ -108,9 +108,9 @@ pub fn place_listed(
 ) -> Printed
     requires { ⌜ Small s ⌝ }
     requires { ⌜ ContentSound (content s (now ends) (now rays) (now weights) (now scales) (now points)) ⌝ }
-    requires { ⌜ PointLists s (now ends) (now offsets) (now listed) ⌝ }
+    requires { ⌜ Listed s (now ends) (now offsets) (now listed) ⌝ }
     ensures { λ r. ⌜ Prints
-        (Solved (content s (now (ends .entry)) (now (rays .entry)) (now (weights .entry)) (now (scales .entry)) (now (points .entry))))
+        (ImageSolved (content s (now (ends .entry)) (now (rays .entry)) (now (weights .entry)) (now (scales .entry)) (now (points .entry))))
         r (now (text .entry)) (now (text .exit)) ⌝ }
 {
     let mut work = [0.0f64; 6980];

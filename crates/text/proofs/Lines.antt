@@ -12,10 +12,10 @@ use lib.Ieee.{Float, binary64, toBits}
 use lib.ListN.{length, length-append}
 use Rattle.field.specs.declared.Vec3.{Vec3}
 use Rattle.field.specs.Count.{field}
-use Rattle.field.specs.Buffer.{get, load, vector}
+use Rattle.field.specs.Buffer.{get, load, vector, vectorsIn}
 use Rattle.field.proofs.Buffers.{load-suc, length-load, length-write}
 use Rattle.text.specs.Text.{digit, hex, decimal, bits, spaced, vectorLine, numbered, vectorLines}
-use Rattle.text.specs.Lent.{Put, PutIfRoom, room, vectorsOf}
+use Rattle.text.specs.Lent.{Put, PutIfRoom, room}
 use Rattle.text.proofs.Digits.{decimal-one, decimal-more, length-decimal, hex-more, length-hex}
 use Rattle.text.proofs.Puts.{put-none, put-two, put-three, put-as}
 
@@ -71,8 +71,8 @@ vectors-more l m n p q r tag s i v a e c =
     rw d (put-two a c (omega arith))
 
 pub vectors-all : (l m : List ℕ) (p q tag : ℕ) (s : List Float) (i n : ℕ) →
-    Put l m p (vectorLines tag (load vector s 0 i)) (74 * i) q → n ≡ length s / 3 → i ≤ n → n ≤ i → Put l m p (vectorLines tag (vectorsOf s)) (74 * n) q
-unfolding vectorsOf
+    Put l m p (vectorLines tag (load vector s 0 i)) (74 * i) q → n ≡ length s / 3 → i ≤ n → n ≤ i → Put l m p (vectorLines tag (vectorsIn s)) (74 * n) q
+unfolding vectorsIn
 vectors-all l m p q tag s i n a e h k = let d : i ≡ length s / 3 = omega arith in rw (← e) (rw (d, ← e) at a)
 
 -- the line of the counts, as two pairs of numbers and a newline

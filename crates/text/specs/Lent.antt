@@ -6,8 +6,7 @@ use Prim.Native.Nat.{ℕ, _+_, _*_, _/_, _≤_}
 use lib.Dec.{leb}
 use lib.ListN.{length}
 use lib.Ieee.{Float}
-use Rattle.field.specs.declared.Vec3.{Vec3}
-use Rattle.field.specs.Buffer.{write, load, vector}
+use Rattle.field.specs.Buffer.{write, vectorsIn}
 use Rattle.text.specs.declared.Counts.{Counts}
 use Rattle.text.specs.declared.Report.{Report}
 use Rattle.text.specs.Text.{placedText}
@@ -34,13 +33,9 @@ fitting vectors out text = cond (leb (room vectors) (length out)) text []
 abbrev pub PutIfRoom : (before after : List ℕ) → (vectors : ℕ) → (text : List ℕ) → (r : ℕ) → Type 0
 PutIfRoom before after vectors text r = Put before after 0 (fitting vectors before text) (length before) r
 
--- the vectors whose numbers a buffer holds: three for each, and a rest of one or two numbers is none
-unfoldable pub vectorsOf : List Float → List Vec3
-vectorsOf l = load vector l 0 (length l / 3)
-
 -- What `put_placed` promises: c and p are the numbers of the lines of the counts and of the report, and cs and ps hold the vectors' numbers.
 abbrev pub PutPlaced : (c : Counts) (parts : ℕ) (p : Report) (cs ps : List Float) → (before after : List ℕ) → (r : ℕ) → Type 0
 PutPlaced c parts p cs ps before after r =
     PutIfRoom before after (length cs / 3 + length ps / 3)
-    (placedText (c .cameras) (c .points) (c .bearings) (c .directions) parts (p .anchor) (p .route) (p .rounds) (vectorsOf cs) (vectorsOf ps))
+    (placedText (c .cameras) (c .points) (c .bearings) (c .directions) parts (p .anchor) (p .route) (p .rounds) (vectorsIn cs) (vectorsIn ps))
     r

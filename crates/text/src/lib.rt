@@ -7,8 +7,9 @@ ghost use mathlib.Core.List.{[], _∷_, _++_};
 ghost use Prim.Native.Nat.{_+_, _/_, _≤_, _<_};
 ghost use lib.Dec.{leb};
 ghost use lib.ListN.{length};
+ghost use Rattle.field.specs.Buffer.{vectorsIn};
 ghost use Rattle.text.specs.Text.{digit, hex, decimal, spaced, named, coordinates, vectorLine, vectorLines, partsLine, refusedText};
-ghost use Rattle.text.specs.Lent.{Put, PutIfRoom, PutPlaced, room, vectorsOf};
+ghost use Rattle.text.specs.Lent.{Put, PutIfRoom, PutPlaced, room};
 ghost use Rattle.text.specs.inner.Steps.{PutPair, countsOf, reportOf, lineRoom};
 
 // The numbers of the first line.
@@ -135,7 +136,7 @@ fn put_vector_line(out: &mut [u8], at: usize, tag: u8, i: usize, v: Vec3) -> usi
 // The lines of the cameras or points whose numbers are s.
 fn put_vectors(out: &mut [u8], at: usize, tag: u8, s: &[f64]) -> usize
     requires { ⌜ at + lineRoom (now s) ≤ length (now out) ⌝ }
-    ensures { λ r. ⌜ Put (now (out .entry)) (now (out .exit)) at (vectorLines tag (vectorsOf (now (s .entry)))) (lineRoom (now (s .entry))) r ⌝ }
+    ensures { λ r. ⌜ Put (now (out .entry)) (now (out .exit)) at (vectorLines tag (vectorsIn (now (s .entry)))) (lineRoom (now (s .entry))) r ⌝ }
 {
     let n = s.len() / 3;
     let mut next = at;

@@ -5,6 +5,7 @@ use mathlib.Core.Bool.{true}
 use mathlib.Core.List.{List}
 use lib.ListN.{length}
 use lib.Ieee.{Float}
+use Rattle.field.specs.Buffer.{vectorsIn}
 use Rattle.network.specs.declared.Refusal.{Refusal}
 use Rattle.network.specs.declared.Shape.{Shape}
 use Rattle.network.specs.declared.Verdict.the-variants as tested
@@ -14,13 +15,13 @@ use Rattle.graph.specs.Outcome.{Labelled}
 use Rattle.graph.specs.Distinct.{distinct}
 use Rattle.placement.specs.declared.Answer.{Answer}
 use Rattle.placement.specs.declared.Answer.the-variants.{Refused, Accepted}
+use Rattle.lists.specs.PointLists.{offsetsOf, listedOf}
 use Rattle.layout.specs.Image.{Content}
 use Rattle.image.specs.declared.Counted.{Counted}
 use Rattle.image.specs.declared.Counted.the-variants.{Refused as NoCounts, Of}
 use Rattle.image.specs.Reading.{shapeAt, contentOf}
 use Rattle.image.specs.Tests.{contentFits, contentSections, countsTests}
-use Rattle.text.specs.Lent.{vectorsOf}
-use Rattle.command.specs.Command.{programTests, refusedLine, placedLines, Solved}
+use Rattle.command.specs.Command.{programTests, refusedLine, placedLines, ImageSolved}
 
 -- an image of at most 16,384 bytes whose counts pass and are those of s
 pub record CountsPassed (l : List ℕ) (s : Shape) : Type 0 where
@@ -45,6 +46,11 @@ pub record ContentSound (c : Content) : Type 0 where
 pub record ReadAs (l : List ℕ) (x : Counted) (c : Content) : Type 0 where
   pub refused : (r : Refusal) → x ≡ NoCounts r → verdict (programTests l) ≡ tested.Refused r
   pub passed : (s : Shape) → x ≡ Of s → (verdict (programTests l) ≡ tested.Passed) × (c ≡ contentOf l) × ContentSound c
+
+-- the point lists that are built of the rows
+pub record Listed (s : Shape) (ends offsets listed : List ℕ) : Type 0 where
+  pub starts : offsets ≡ offsetsOf ends (s .bearings) (s .points)
+  pub rows : listed ≡ listedOf ends (s .bearings) (s .points)
 
 -- the buffers of a solve: the work buffer has room, and the outputs have the lengths that the counts say
 pub record BuffersSized (s : Shape) (l cs ps : List Float) : Type 0 where
@@ -77,13 +83,13 @@ RefusedAs r = Exactly (Refused r) (refusedLine r)
 -- an answer and its lines, where cs and ps hold the cameras' and points' numbers
 abbrev pub textOf : Shape → (parts : ℕ) → Answer → (cs ps : List Float) → List ℕ
 textOf s parts (Refused r) cs ps = refusedLine r
-textOf s parts (Accepted p) cs ps = placedLines s parts p (vectorsOf cs) (vectorsOf ps)
+textOf s parts (Accepted p) cs ps = placedLines s parts p (vectorsIn cs) (vectorsIn ps)
 
 abbrev pub AnsweredAs : Shape → (parts : ℕ) → Answer → (cs ps : List Float) → Answer → List ℕ → Type 0
 AnsweredAs s parts x cs ps = Exactly x (textOf s parts x cs ps)
 
 -- the content c was solved with so many parts: x is the answer, and cs and ps hold the cameras' and points' numbers
 pub record SolvedAs (c : Content) (parts : ℕ) (x : Answer) (cs ps : List Float) : Type 0 where
-  pub solved : Solved c x (textOf (c .shape) parts x cs ps)
+  pub solved : ImageSolved c x (textOf (c .shape) parts x cs ps)
   pub cameras : length cs ≤ 192
   pub points : length ps ≤ 2040

@@ -1,6 +1,6 @@
 use mathlib.Core.Path.{sym}
 use lib.Seq.{length-take-le}
-use Rattle.command.proofs.Printing.{prints-within}
+use Rattle.stream.proofs.Answers.{filled-within}
 use borrow.Author.Needs.{needs}
 use Rattle.solve.proofs.main.Statement.{statement}
 use Rattle.solve.proofs.main.Tie as tie
@@ -14,7 +14,9 @@ main-spec =
     (λ c. search needs)
     (λ c. search needs)
     (λ c κs. search needs)
-    (λ c. search (needs, prints-within))
-    (λ c. sym (length-take-le _ _ (search (needs, prints-within))))
+    (λ c. search needs)
+    (λ c. search filled-within)
+    (λ c. sym (length-take-le _ _ (search filled-within)))
     (λ c κs. search needs)
+    (λ c. search needs)
     (λ c. search needs))

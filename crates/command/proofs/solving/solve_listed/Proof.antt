@@ -14,4 +14,4 @@ solve-listed-spec =
     (λ c. search needs)
     (λ c. search needs)
     (λ c. search needs)
-    (λ c. record { solved = search solved; cameras = omega arith; points = omega arith }))
+    (λ c. record { solved = search (solved, arith); cameras = omega arith; points = omega arith }))
