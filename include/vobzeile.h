@@ -35,9 +35,10 @@
  * Limits: n 1 to 4,096; m and e 0 to 65,536; b 0 to 262,144; dense limit 0 to 256. (The solve program, which stands on these functions,
  * takes images of at most 16,384 bytes and 64 cameras.)
  *
- * Answers. A function (but vobzeile_sqrt) returns 0, or the number of a refusal. The first number of `report` is then what was asked, or
- * the refusal's place; the rest of a report is left unless said otherwise. Where a report may have any length, nothing is reported
- * into one of length 0.
+ * Answers. A function (but vobzeile_sqrt) returns 0, and `report` then holds what was asked; or it returns the number of a refusal, whose
+ * place is then the report's first number. A report has 1 number; a solve's has 3, that of vobzeile_counts and of vobzeile_read 4. One of
+ * another length is refused by 3, in its turn after 1 and 2 (an image's 20 to 22 come before these), and left; where one of those refuses
+ * first, its place is stored if the report has a first number.
  *
  *    1  n is 0 or over 4,096                                      place 0
  *    2  m, b or e over its limit                                  place 0
@@ -62,7 +63,7 @@
  *   23  image: output shorter than the image                      bytes needed
  *
  * 1 to 8 and 20 to 22 are tested in number order (an image's 20 to 22 before the rest), each at its lowest place. 9 to 17 leave the
- * outputs untouched, the others every buffer but report.
+ * outputs untouched, the others every buffer but the report's first number.
  */
 #ifndef VOBZEILE_H
 #define VOBZEILE_H
@@ -83,7 +84,8 @@ double vobzeile_sqrt(double x);
 
 /*
  * Builds the point lists from the ends of b bearings; `ends` has 2b numbers or more, so directions may follow. Fills `offsets` (m+1) and
- * `rows` (b). Refuses by 3 and 4 (a bearing's point number is not below m), and then leaves both. Counts are not held to their limits.
+ * `rows` (b); report[0] is 0 after an answer. Refuses by 3 and 4 (a bearing's point number is not below m), and then leaves both. Counts
+ * are not held to their limits.
  */
 size_t vobzeile_list_points(
     size_t m, size_t b,
@@ -117,7 +119,7 @@ size_t vobzeile_parts(
 
 /*
  * The doubles that a solve's work buffer needs, in report[0]: 23n + 4m + b + e + d*d + 3d, where d is n-1 if the route may go dense
- * within the limit, else 0 (0 too if 8 would refuse the route or the limit). Refuses by 1 and 2.
+ * within the limit, else 0 (0 too if 8 would refuse the route or the limit). Refuses by 1, 2 and (the report's length) 3.
  */
 size_t vobzeile_work_length(
     size_t n, size_t m, size_t b, size_t e,
@@ -166,9 +168,9 @@ size_t vobzeile_scales(
 /*
  * Places every camera and point: fills `cameras` (3n) and `placed` (3m); `points` are the old ones, which a point of a weight below 1e-12
  * keeps. Route 1 is dense, 2 iterative, 3 iterative and then dense if that refused and n-1 is within the limit. `report` has 3 numbers:
- * anchor, answering route (3: dense after iterative) and rounds (0 where dense answered); a report of another length is refused before
- * all else by 3 and is left too. `work` has at least the doubles of vobzeile_work_length, with any content; unless 1 to 8 refused, those
- * are +0.0 afterwards, and any more are left. Refuses by 1 to 17. Points are not tested for finiteness.
+ * anchor, answering route (3: dense after iterative) and rounds (0 where dense answered); a refusal leaves the second and the third.
+ * `work` has at least the doubles of vobzeile_work_length, with any content; unless 1 to 8 refused, those are +0.0 afterwards, and any
+ * more are left. Refuses by 1 to 17. Points are not tested for finiteness.
  */
 size_t vobzeile_solve(
     size_t n, size_t m, size_t b, size_t e,
@@ -186,8 +188,8 @@ size_t vobzeile_solve(
     size_t *report, size_t report_len);
 
 /*
- * The counts of a network image: n, m, b, e in `report`, which has 4 numbers (another length is refused before all else by 3, and left).
- * Refuses by 20 to 22, then 1 and 2; then only report[0] is stored.
+ * The counts of a network image: n, m, b, e in `report`, which has 4 numbers. Refuses by 20 to 22, then 1, 2 and (the report's length) 3;
+ * a refusal leaves all but report[0].
  *
  * An image is little-endian: version 1 and section count 4 (16 bits each), four pairs of offset and length (32 bits each), counts (16
  * bytes: n, m, b, e), bearings (48 bytes each: camera and point in 32 bits, ray, weight, scale), directions (48), points (24).

@@ -107,7 +107,7 @@ mod port {
                     s.n, s.m, s.b, s.e, s.ends.as_ptr(), s.ends.len(), s.rays.as_ptr(), s.rays.len(), s.weights.as_ptr(), s.weights.len(),
                     s.scales.as_ptr(), s.scales.len(), s.points.as_ptr(), s.points.len(), s.offsets.as_ptr(), s.offsets.len(),
                     s.rows.as_ptr(), s.rows.len(), cameras.as_ptr(), cameras.len(), cameras.as_ptr(), cameras.len(), 0,
-                    self.out.as_mut_ptr(), self.out.len(), self.report.as_mut_ptr(), 3,
+                    self.out.as_mut_ptr(), self.out.len(), self.report.as_mut_ptr(), 1,
                 )
             }
         }
@@ -117,7 +117,7 @@ mod port {
             unsafe {
                 vobzeile_connected(
                     s.n, s.m, s.b, s.e, s.ends.as_ptr(), s.ends.len(), s.weights.as_ptr(), s.weights.len(),
-                    self.nodes.as_mut_ptr(), self.nodes.len(), self.report.as_mut_ptr(), 3,
+                    self.nodes.as_mut_ptr(), self.nodes.len(), self.report.as_mut_ptr(), 1,
                 )
             }
         }

@@ -4,7 +4,8 @@
 //!
 //! Each network: connectivity, parts listing, the solve by its own route and by the others, dots and scales from the network's own
 //! positions and from what the solve placed, the work length, and a spoiled call that 1 to 8 must refuse. Every buffer is lent
-//! with canaries on both sides; after each call the inputs, the outputs, the work buffer and its surplus are compared whole.
+//! with canaries on both sides; after each call the inputs, the outputs, the report, the work buffer and its surplus are compared
+//! whole.
 
 mod classes;
 
@@ -233,6 +234,17 @@ fn answered(what: &str, got: usize, wanted: usize, differences: &mut Vec<String>
     }
 }
 
+/// The refusal's place is the report's first number, if it has one; 3 leaves a report that has not `length` numbers.
+fn refused(report: &Lent<usize>, length: usize, (number, place): rules::Refusal, differences: &mut Vec<String>) {
+    let left = number == 3 && report.len() != length;
+    let stored = if left { 0 } else { report.len().min(1) };
+    report.check(&[place][..stored], differences);
+}
+
+/// The numbers of a report: a solve's, and every other call's.
+const SOLVE_REPORT: usize = 3;
+const REPORT: usize = 1;
+
 /// What a solve is lent beside the network.
 struct Room {
     work: usize,
@@ -262,17 +274,16 @@ fn compare_solve(call: &Call, route: usize, limit: usize, room: Room, difference
     };
     let net = call.view();
     let needed = || rules::work_length(net.n, net.m, net.b, net.e, route, limit);
-    let fit = || room.work >= needed() && room.cameras == 3 * net.n && room.placed == 3 * net.m && room.report == 3;
+    let fit = || room.work >= needed() && room.cameras == 3 * net.n && room.placed == 3 * net.m && room.report == SOLVE_REPORT;
     let solved = match rules::solve(&net, route, limit, fit) {
         Some(refusal) => Err(refusal),
         None => Ok(oracle::solve(&net, route, limit)),
     };
     call.untouched(differences);
     match &solved {
-        Err((number, place)) => {
-            answered("solve's refusal", got, *number, differences);
-            let told = [*place];
-            report.check(if room.report == 3 { &told } else { &[] }, differences);
+        Err(refusal) => {
+            answered("solve's refusal", got, refusal.0, differences);
+            refused(&report, SOLVE_REPORT, *refusal, differences);
             work.untouched(differences);
             cameras.untouched(differences);
             placed.untouched(differences);
@@ -299,8 +310,10 @@ fn compare_solve(call: &Call, route: usize, limit: usize, room: Room, difference
     solved
 }
 
-/// Dots and scales of the marked cameras; the other buffer holds canaries. `short` spoils one of the three lengths.
-fn compare_step(call: &Call, cameras: &[f64], mark: usize, short: Option<usize>, differences: &mut Vec<String>) -> Option<rules::Refusal> {
+/// Dots and scales of the marked cameras; the other buffer holds canaries. `short` spoils one of the three lengths, `told` is the report's.
+fn compare_step(
+    call: &Call, cameras: &[f64], mark: usize, short: Option<usize>, told: usize, differences: &mut Vec<String>,
+) -> Option<rules::Refusal> {
     let net = call.view();
     let mut other: Vec<f64> = (0..cameras.len()).map(f64::canary).collect();
     let mut cameras = cameras.to_vec();
@@ -315,7 +328,7 @@ fn compare_step(call: &Call, cameras: &[f64], mark: usize, short: Option<usize>,
     let current = Lent::holding("current", &current);
     let trial = Lent::holding("trial", &trial);
     let length = call.weights.len() + (short == Some(2)) as usize;
-    let fit = || current.len() == 3 * net.n && trial.len() == 3 * net.n && length == net.b + net.e;
+    let fit = || current.len() == 3 * net.n && trial.len() == 3 * net.n && length == net.b + net.e && told == REPORT;
     let refusal = rules::step(&net, &marked, fit);
     type Step = unsafe extern "C" fn(
         usize, usize, usize, usize,
@@ -326,7 +339,7 @@ fn compare_step(call: &Call, cameras: &[f64], mark: usize, short: Option<usize>,
         [("dots", vobzeile_dots, oracle::dots), ("scales", vobzeile_scales, oracle::scales)];
     for (name, step, of) in steps {
         let mut out: Lent<f64> = Lent::blank(name, length);
-        let mut report: Lent<usize> = Lent::blank("report", 3);
+        let mut report: Lent<usize> = Lent::blank("report", told);
         let got = unsafe {
             step(
                 call.n, call.m, call.b, call.e,
@@ -337,13 +350,14 @@ fn compare_step(call: &Call, cameras: &[f64], mark: usize, short: Option<usize>,
             )
         };
         match refusal {
-            Some((number, place)) => {
-                answered(name, got, number, differences);
-                report.check(&[place], differences);
+            Some(refusal) => {
+                answered(name, got, refusal.0, differences);
+                refused(&report, REPORT, refusal, differences);
                 out.untouched(differences);
             }
             None => {
                 answered(name, got, 0, differences);
+                report.check(&[0], differences);
                 out.check(&of(&net, &marked), differences);
             }
         }
@@ -354,13 +368,14 @@ fn compare_step(call: &Call, cameras: &[f64], mark: usize, short: Option<usize>,
     refusal
 }
 
-/// Connectivity and the parts listing. `more` and `off` are added to the lengths of the node numbers and the labels.
-fn compare_graph(call: &Call, more: isize, off: isize, differences: &mut Vec<String>) -> Option<rules::Refusal> {
+/// Connectivity and the parts listing. `more` and `off` are added to the lengths of the node numbers and the labels, `told` is the
+/// report's.
+fn compare_graph(call: &Call, more: isize, off: isize, told: usize, differences: &mut Vec<String>) -> Option<rules::Refusal> {
     let net = call.view();
     // counts over the limit are refused before the lengths are looked at
     let sized = |count: usize, change: isize| count.min(70_000).saturating_add_signed(change);
     let mut nodes: Lent<usize> = Lent::blank("nodes", sized(net.n.saturating_add(net.m), more));
-    let mut report: Lent<usize> = Lent::blank("report", 3);
+    let mut report: Lent<usize> = Lent::blank("report", told);
     let got = unsafe {
         vobzeile_connected(
             net.n, net.m, net.b, net.e,
@@ -368,11 +383,11 @@ fn compare_graph(call: &Call, more: isize, off: isize, differences: &mut Vec<Str
             nodes.mut_ptr(), nodes.len(), report.mut_ptr(), report.len(),
         )
     };
-    let refusal = rules::graph(&net, || nodes.len() >= net.n + net.m);
+    let refusal = rules::graph(&net, || nodes.len() >= net.n + net.m && told == REPORT);
     match refusal {
-        Some((number, place)) => {
-            answered("connectivity's refusal", got, number, differences);
-            report.check(&[place], differences);
+        Some(refusal) => {
+            answered("connectivity's refusal", got, refusal.0, differences);
+            refused(&report, REPORT, refusal, differences);
             nodes.untouched(differences);
         }
         None => {
@@ -385,7 +400,7 @@ fn compare_graph(call: &Call, more: isize, off: isize, differences: &mut Vec<Str
 
     let mut nodes: Lent<usize> = Lent::blank("nodes", nodes.len());
     let mut labels: Lent<usize> = Lent::blank("labels", sized(net.n, off));
-    let mut report: Lent<usize> = Lent::blank("report", 3);
+    let mut report: Lent<usize> = Lent::blank("report", told);
     let got = unsafe {
         vobzeile_parts(
             net.n, net.m, net.b, net.e,
@@ -393,11 +408,11 @@ fn compare_graph(call: &Call, more: isize, off: isize, differences: &mut Vec<Str
             nodes.mut_ptr(), nodes.len(), labels.mut_ptr(), labels.len(), report.mut_ptr(), report.len(),
         )
     };
-    let refusal = rules::graph(&net, || nodes.len() >= net.n + net.m && labels.len() == net.n);
+    let refusal = rules::graph(&net, || nodes.len() >= net.n + net.m && labels.len() == net.n && told == REPORT);
     match refusal {
-        Some((number, place)) => {
-            answered("the listing's refusal", got, number, differences);
-            report.check(&[place], differences);
+        Some(refusal) => {
+            answered("the listing's refusal", got, refusal.0, differences);
+            refused(&report, REPORT, refusal, differences);
             nodes.untouched(differences);
             labels.untouched(differences);
         }
@@ -413,13 +428,14 @@ fn compare_graph(call: &Call, more: isize, off: isize, differences: &mut Vec<Str
     refusal
 }
 
-fn compare_work_length(n: usize, m: usize, b: usize, e: usize, route: usize, limit: usize, differences: &mut Vec<String>) {
-    let mut report: Lent<usize> = Lent::blank("report", 3);
+fn compare_work_length(call: &Call, route: usize, limit: usize, told: usize, differences: &mut Vec<String>) {
+    let Call { n, m, b, e, .. } = *call;
+    let mut report: Lent<usize> = Lent::blank("report", told);
     let got = unsafe { vobzeile_work_length(n, m, b, e, route, limit, report.mut_ptr(), report.len()) };
-    match rules::counts(n, m, b, e) {
-        Some((number, place)) => {
-            answered("the work length's refusal", got, number, differences);
-            report.check(&[place], differences);
+    match rules::length(n, m, b, e, told == REPORT) {
+        Some(refusal) => {
+            answered("the work length's refusal", got, refusal.0, differences);
+            refused(&report, REPORT, refusal, differences);
         }
         None => {
             answered("the work length's answer", got, 0, differences);
@@ -433,7 +449,7 @@ fn room(net: &Network, route: usize, limit: usize, surplus: usize) -> Room {
         work: rules::work_length(net.n, net.m, net.b, net.e, route, limit) + surplus,
         cameras: 3 * net.n,
         placed: 3 * net.m,
-        report: 3,
+        report: SOLVE_REPORT,
     }
 }
 
@@ -530,32 +546,34 @@ fn compare_spoiled(case: &Case, random: &mut Random, differences: &mut Vec<Strin
             }
         }
     }
-    if random.chance(4) && call.n == case.net.n && call.m == case.net.m && call.b == case.net.b && call.e == case.net.e {
+    let mut told = REPORT;
+    if random.chance(20) {
         room.report = random.pick(&[0, 1, 2, 4]);
+        told = random.pick(&[0, 2, 3]);
     }
     let met_by = |name: &str, refusal: &rules::Refusal| format!("{name} refused {}", refusal.0);
     if let Err(refusal) = compare_solve(&call, route, limit, room, differences) {
         met.meet(met_by("spoiled solve", &refusal), number);
     }
-    if let Some(refusal) = compare_step(&call, &cameras, random.below(2), short, differences) {
+    if let Some(refusal) = compare_step(&call, &cameras, random.below(2), short, told, differences) {
         met.meet(met_by("spoiled dots and scales", &refusal), number);
     }
-    if let Some(refusal) = compare_graph(&call, more, off, differences) {
+    if let Some(refusal) = compare_graph(&call, more, off, told, differences) {
         met.meet(met_by("spoiled graph calls", &refusal), number);
     }
-    compare_work_length(call.n, call.m, call.b, call.e, route, limit, differences);
+    compare_work_length(&call, route, limit, told, differences);
 }
 
 fn compare(case: &Case, random: &mut Random, met: &mut Met, number: u64, routes: &[usize]) -> Vec<String> {
     let mut differences = Vec::new();
     let call = Call::new(&case.net);
-    compare_graph(&call, random.below(3) as isize, 0, &mut differences);
+    compare_graph(&call, random.below(3) as isize, 0, REPORT, &mut differences);
     met.meet(if oracle::connected(&case.net.view()) { "connected" } else { "disconnected" }, number);
-    compare_step(&call, &case.cameras, random.below(2), None, &mut differences);
+    compare_step(&call, &case.cameras, random.below(2), None, REPORT, &mut differences);
     for &route in routes {
         let surplus = random.below(3);
         let solved = compare_solve(&call, route, case.limit, room(&case.net, route, case.limit, surplus), &mut differences);
-        compare_work_length(call.n, call.m, call.b, call.e, route, case.limit, &mut differences);
+        compare_work_length(&call, route, case.limit, REPORT, &mut differences);
         let Ok(answer) = solved else {
             differences.push("a network of the generator was refused".to_string());
             continue;
@@ -566,7 +584,7 @@ fn compare(case: &Case, random: &mut Random, met: &mut Met, number: u64, routes:
         if let (Ok(placement), true) = (answer, route == case.route) {
             // the points that were placed take the place of the old ones
             let net = Network { points: placement.points, ..case.net.clone() };
-            if let Some((number_, _)) = compare_step(&Call::new(&net), &placement.cameras, random.below(2), None, &mut differences) {
+            if let Some((number_, _)) = compare_step(&Call::new(&net), &placement.cameras, random.below(2), None, REPORT, &mut differences) {
                 met.meet(format!("dots and scales of a placement refused {number_}"), number);
             }
         }

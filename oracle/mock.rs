@@ -4,10 +4,13 @@
 use rules::Refusal;
 use std::slice::{from_raw_parts, from_raw_parts_mut};
 
-/// Stores the place (in a report of length 3) and returns the number.
-fn refuse(report: &mut [usize], (number, place): Refusal) -> usize {
-    if report.len() == 3 {
-        report[0] = place;
+/// Returns the number and stores the place, if the report has a first number; 3 leaves a report that has not `length` numbers.
+fn refuse(report: &mut [usize], length: usize, (number, place): Refusal) -> usize {
+    if number == 3 && report.len() != length {
+        return number;
+    }
+    if let Some(first) = report.first_mut() {
+        *first = place;
     }
     number
 }
@@ -45,7 +48,7 @@ pub unsafe extern "C" fn vobzeile_solve(
     let needed = || rules::work_length(n, m, b, e, route, limit);
     let fit = || work.len() >= needed() && cameras.len() == 3 * n && placed.len() == 3 * m && report_len == 3;
     if let Some(refusal) = rules::solve(&net, route, limit, fit) {
-        return refuse(report, refusal);
+        return refuse(report, 3, refusal);
     }
     work[..needed()].fill(0.0);
     match subject::solve(&subject, route, limit) {
@@ -55,7 +58,7 @@ pub unsafe extern "C" fn vobzeile_solve(
             report.copy_from_slice(&[answer.anchor, answer.route, answer.rounds]);
             0
         }
-        Err(tag) => refuse(report, (tag.number, tag.place)),
+        Err(tag) => refuse(report, 3, (tag.number, tag.place)),
     }
 }
 
@@ -75,11 +78,12 @@ macro_rules! step {
             lent!(out out_len, report report_len);
             let (net, subject) = network!(n, m, b, e, ends, rays, weights, scales, points, offsets, rows);
             let marked = if mark == 1 { trial } else { current };
-            let fit = || current.len() == 3 * n && trial.len() == 3 * n && out.len() == b + e && report_len == 3;
+            let fit = || current.len() == 3 * n && trial.len() == 3 * n && out.len() == b + e && report_len == 1;
             if let Some(refusal) = rules::step(&net, marked, fit) {
-                return refuse(report, refusal);
+                return refuse(report, 1, refusal);
             }
             out.copy_from_slice(&$of(&subject, marked));
+            report[0] = 0;
             0
         }
     };
@@ -97,8 +101,8 @@ pub unsafe extern "C" fn vobzeile_connected(
     shared!(ends ends_len, weights weights_len);
     lent!(nodes nodes_len, report report_len);
     let (net, subject) = network!(n, m, b, e, ends, &[], weights, &[], &[], &[], &[]);
-    if let Some(refusal) = rules::graph(&net, || nodes.len() >= n + m && report_len == 3) {
-        return refuse(report, refusal);
+    if let Some(refusal) = rules::graph(&net, || nodes.len() >= n + m && report_len == 1) {
+        return refuse(report, 1, refusal);
     }
     nodes[..n + m].fill(0);
     report[0] = subject::connected(&subject) as usize;
@@ -114,8 +118,8 @@ pub unsafe extern "C" fn vobzeile_parts(
     shared!(ends ends_len, weights weights_len);
     lent!(nodes nodes_len, labels labels_len, report report_len);
     let (net, subject) = network!(n, m, b, e, ends, &[], weights, &[], &[], &[], &[]);
-    if let Some(refusal) = rules::graph(&net, || nodes.len() >= n + m && labels.len() == n && report_len == 3) {
-        return refuse(report, refusal);
+    if let Some(refusal) = rules::graph(&net, || nodes.len() >= n + m && labels.len() == n && report_len == 1) {
+        return refuse(report, 1, refusal);
     }
     nodes[..n + m].fill(0);
     let (label, parts) = subject::labels(&subject);
@@ -129,9 +133,8 @@ pub unsafe extern "C" fn vobzeile_work_length(
     n: usize, m: usize, b: usize, e: usize, route: usize, limit: usize, report: *mut usize, report_len: usize,
 ) -> usize {
     lent!(report report_len);
-    let fit = report_len == 3;
-    if let Some(refusal) = rules::counts(n, m, b, e).or_else(|| (!fit).then_some((3, 0))) {
-        return refuse(report, refusal);
+    if let Some(refusal) = rules::length(n, m, b, e, report_len == 1) {
+        return refuse(report, 1, refusal);
     }
     report[0] = rules::work_length(n, m, b, e, route, limit);
     0

@@ -1,7 +1,7 @@
 //! Refusals 1 to 8 and the work length, written from document 01: what the Rust kernel has no part in.
 //!
 //! A refusal is its number and place. Lengths are tested by equality, except the work buffer and the node numbers, which may
-//! be longer than needed.
+//! be longer than needed. A report's length is one of them: `fit` has it too.
 
 use oracle::Network;
 
@@ -83,6 +83,11 @@ fn fits(net: &Network) -> bool {
         && net.points.len() == 3 * net.m
         && net.offsets.len() == net.m + 1
         && net.rows.len() == net.b
+}
+
+/// The call for the work length: 1 and 2, and 3 for its report.
+pub fn length(n: usize, m: usize, b: usize, e: usize, fit: bool) -> Option<Refusal> {
+    counts(n, m, b, e).or_else(|| (!fit).then_some((3, 0)))
 }
 
 /// Graph calls: 1 to 5 and the weight part of 7. `fit`: the call's other lengths fit.

@@ -98,12 +98,23 @@ impl<T: Held> Guarded<T> {
     fn guarded(&self) {
         self.holds(self.get());
     }
+}
 
-    /// A report whose first number is this, if it has one.
+impl Guarded<usize> {
+    /// The first number of a report that must have `length` numbers: a refusal's place, or the one number of an answer. The others are
+    /// what they were, and so is the whole of a report that 3 refuses. 0 where there is none.
     #[track_caller]
-    fn reports(&self, first: T) {
-        let length = self.get().len().min(1);
-        self.holds(&[first][..length]);
+    fn told(&self, code: usize, length: usize) -> usize {
+        if self.get().len() != length {
+            assert!((1..=3).contains(&code) || (20..=22).contains(&code));
+            if code == 3 {
+                self.untouched();
+                return 0;
+            }
+        }
+        let first = &self.get()[..self.get().len().min(1)];
+        self.holds(first);
+        first.first().copied().unwrap_or(0)
     }
 }
 
@@ -167,7 +178,7 @@ fn case() -> Case {
         labels: 3,
         // 52 + 48 * 5 + 24 * 2, and four to spare
         bytes: 344,
-        report: 2,
+        report: 1,
         solve_report: 3,
     }
 }
@@ -242,10 +253,6 @@ fn solve(case: &Case) -> Outcome {
     };
     let code = ffi::solve(&buffers.lent(), case.route, case.limit, solved);
     buffers.untouched();
-    let place = match code {
-        0 => 0,
-        _ => report.get().first().copied().unwrap_or(0),
-    };
     if (1..=8).contains(&code) {
         work.untouched();
     } else {
@@ -264,12 +271,7 @@ fn solve(case: &Case) -> Outcome {
     }
     cameras.untouched();
     placed.untouched();
-    if case.solve_report != 3 {
-        report.untouched();
-        return (code, 0);
-    }
-    report.reports(place);
-    (code, place)
+    (code, report.told(code, 3))
 }
 
 /// Dots and scales, which refuse alike.
@@ -289,8 +291,7 @@ fn step(case: &Case) -> Outcome {
         buffers.untouched();
         current.untouched();
         trial.untouched();
-        let place = report.get().first().copied().unwrap_or(0);
-        report.reports(place);
+        let place = report.told(code, 1);
         if code == 0 {
             assert_eq!(place, 0);
             out.guarded();
@@ -317,8 +318,7 @@ fn graph(case: &Case) -> Outcome {
         report.get_mut(),
     );
     buffers.untouched();
-    let first = report.get().first().copied().unwrap_or(0);
-    report.reports(first);
+    let first = report.told(code, 1);
     if code == 0 {
         nodes.holds(&vec![0; case.counts.cameras + case.counts.points]);
         labels.guarded();
@@ -331,19 +331,16 @@ fn graph(case: &Case) -> Outcome {
     let mut report = Guarded::<usize>::blank(case.report);
     let connected = ffi::connected(&buffers.lent(), nodes.get_mut(), report.get_mut());
     buffers.untouched();
-    let yes = report.get().first().copied().unwrap_or(0);
-    report.reports(yes);
+    let yes = report.told(connected, 1);
     // the labels are the listing's alone
     if case.labels == case.counts.cameras {
         assert_eq!(connected, code);
-        if case.report > 0 {
-            let wanted = if code == 0 {
-                (first == 1) as usize
-            } else {
-                first
-            };
-            assert_eq!(yes, wanted);
-        }
+        let wanted = if code == 0 {
+            (first == 1) as usize
+        } else {
+            first
+        };
+        assert_eq!(yes, wanted);
     }
     if connected == 0 {
         nodes.holds(&vec![0; case.counts.cameras + case.counts.points]);
@@ -359,10 +356,9 @@ fn write(case: &Case) -> Outcome {
     let mut report = Guarded::<usize>::blank(case.report);
     let code = ffi::write(&buffers.lent(), out.get_mut(), report.get_mut());
     buffers.untouched();
-    let first = report.get().first().copied().unwrap_or(0);
-    report.reports(first);
+    let first = report.told(code, 1);
     if code == 0 {
-        assert!(case.report == 0 || first == 340);
+        assert_eq!(first, 340);
         out.holds(&out.get()[..340]);
         return ANSWERED;
     }
@@ -399,8 +395,6 @@ fn shorten<T>(numbers: &mut Vec<T>) {
 #[test]
 fn nothing_wrong() {
     all_tell(|_| {}, ANSWERED);
-    all_tell(|c| c.report = 0, ANSWERED);
-    all_tell(|c| c.report = 5, ANSWERED);
     all_tell(|c| c.route = 1, ANSWERED);
     all_tell(|c| c.route = 2, ANSWERED);
     // the trial buffer is marked, and the current one holds NaNs
@@ -490,9 +484,6 @@ fn lengths_of_outputs() {
     for length in [0, 5, 7] {
         refused(|c| c.placed = length, three, fine, fine, fine);
     }
-    for length in [0, 1, 2, 4] {
-        refused(|c| c.solve_report = length, three, fine, fine, fine);
-    }
     for length in [0, 4, 6] {
         refused(|c| c.out = length, fine, three, fine, fine);
     }
@@ -510,6 +501,59 @@ fn lengths_of_outputs() {
         refused(|c| c.bytes = length, fine, fine, fine, (23, 340));
     }
     refused(|c| c.bytes = 340, fine, fine, fine, fine);
+}
+
+#[test]
+fn lengths_of_reports() {
+    let (three, fine) = ((3, 0), ANSWERED);
+    for length in [0, 1, 2, 4, 5] {
+        refused(|c| c.solve_report = length, three, fine, fine, fine);
+    }
+    for length in [0, 2, 3, 4, 5] {
+        refused(|c| c.report = length, fine, three, three, three);
+        let both = |c: &mut Case| {
+            c.report = length;
+            c.solve_report = 5 - length;
+        };
+        // 1 and 2 come first
+        all_tell(
+            |c| {
+                both(c);
+                c.counts.cameras = 4097;
+            },
+            (1, 0),
+        );
+        all_tell(
+            |c| {
+                both(c);
+                c.counts.points = usize::MAX;
+            },
+            (2, 0),
+        );
+    }
+    // 4 to 8 and 23 come later
+    for length in [0, 2, 4] {
+        let both = |c: &mut Case| {
+            c.report = length;
+            c.solve_report = length;
+        };
+        all_tell(
+            |c| {
+                both(c);
+                c.ends[2] = 3;
+            },
+            three,
+        );
+        all_tell(
+            |c| {
+                both(c);
+                c.weights[1] = f64::NAN;
+                c.route = 0;
+                c.bytes = 0;
+            },
+            three,
+        );
+    }
 }
 
 #[test]
@@ -656,17 +700,19 @@ fn work_lengths() {
         };
         let mut report = Guarded::<usize>::blank(room);
         let code = ffi::work_length(counts, route, limit, report.get_mut());
-        let first = report.get().first().copied().unwrap_or(0);
-        report.reports(first);
-        (code, first)
+        (code, report.told(code, 1))
     };
     assert_eq!(length(3, 2, 3, 2, 3, 2, 1), (0, 92));
-    assert_eq!(length(3, 2, 3, 2, 1, 2, 3), (0, 92));
-    assert_eq!(length(3, 2, 3, 2, 3, 1, 3), (0, 82));
-    assert_eq!(length(3, 2, 3, 2, 2, 2, 3), (0, 82));
-    assert_eq!(length(3, 2, 3, 2, 0, 2, 3), (0, 82));
-    assert_eq!(length(3, 2, 3, 2, 3, 257, 3), (0, 82));
-    assert_eq!(length(3, 2, 3, 2, 3, 2, 0), (0, 0));
+    assert_eq!(length(3, 2, 3, 2, 1, 2, 1), (0, 92));
+    assert_eq!(length(3, 2, 3, 2, 3, 1, 1), (0, 82));
+    assert_eq!(length(3, 2, 3, 2, 2, 2, 1), (0, 82));
+    assert_eq!(length(3, 2, 3, 2, 0, 2, 1), (0, 82));
+    assert_eq!(length(3, 2, 3, 2, 3, 257, 1), (0, 82));
+    for room in [0, 2, 3] {
+        assert_eq!(length(3, 2, 3, 2, 3, 2, room), (3, 0));
+        assert_eq!(length(0, 2, 3, 2, 3, 2, room), (1, 0));
+        assert_eq!(length(3, 65537, 3, 2, 3, 2, room), (2, 0));
+    }
     let full = 23 * 4096 + 4 * 65536 + 262144 + 65536;
     assert_eq!(length(4096, 65536, 262144, 65536, 3, 256, 1), (0, full));
     assert_eq!(length(257, 0, 0, 0, 3, 256, 1), (0, 23 * 257 + 65536 + 768));
@@ -692,8 +738,7 @@ fn listing_points() {
             rows.get_mut(),
             report.get_mut(),
         );
-        let place = report.get().first().copied().unwrap_or(0);
-        report.reports(place);
+        let place = report.told(code, 1);
         ends.untouched();
         if code == 0 {
             offsets.guarded();
@@ -709,13 +754,13 @@ fn listing_points() {
         (code, place)
     };
     let ends = [7, 2, 0, 0, 1, 2, 9, 0, 4, 2];
-    let (code, _, offsets, rows) = list(4, 5, &ends, 5, 5, 2);
+    let (code, _, offsets, rows) = list(4, 5, &ends, 5, 5, 1);
     assert_eq!(
         (code, offsets, rows),
         (0, vec![0, 2, 2, 5, 5], vec![1, 3, 0, 2, 4])
     );
-    // directions may follow, and a report need not be
-    let (code, _, offsets, rows) = list(3, 4, &ends, 4, 4, 0);
+    // directions may follow
+    let (code, _, offsets, rows) = list(3, 4, &ends, 4, 4, 1);
     assert_eq!(
         (code, offsets, rows),
         (0, vec![0, 2, 2, 4], vec![1, 3, 0, 2])
@@ -738,6 +783,13 @@ fn listing_points() {
         (4, 1 << 63, 5, 5),
     ] {
         assert_eq!(outcome(m, b, &ends, offsets, rows), (3, 0));
+    }
+    for room in [0, 2, 3] {
+        let (code, place, ..) = list(4, 5, &ends, 5, 5, room);
+        assert_eq!((code, place), (3, 0));
+        // 4 comes later
+        let (code, place, ..) = list(2, 5, &ends, 3, 5, room);
+        assert_eq!((code, place), (3, 0));
     }
 }
 
@@ -790,17 +842,11 @@ fn read(bytes: &[u8], case: &Case, room: usize) -> (Outcome, Outcome) {
 }
 
 fn outcome_of(code: usize, report: &Guarded<usize>) -> Outcome {
-    if report.get().len() != 4 {
-        report.untouched();
-        return (code, 0);
-    }
     if code == 0 {
         report.holds(&[3, 2, 3, 2]);
         return ANSWERED;
     }
-    let place = report.get()[0];
-    report.reports(place);
-    (code, place)
+    (code, report.told(code, 4))
 }
 
 #[track_caller]
@@ -821,9 +867,6 @@ fn put_double(bytes: &mut [u8], at: usize, number: f64) {
 #[test]
 fn images() {
     image_refused(|_| {}, ANSWERED, ANSWERED);
-    for room in [0, 1, 3, 5] {
-        assert_eq!(read(&image(), &case(), room), ((3, 0), (3, 0)));
-    }
     let same = |spoil: &dyn Fn(&mut Vec<u8>), outcome| image_refused(spoil, outcome, outcome);
     for length in [0, 1, 3, 35] {
         same(&|bytes| bytes.truncate(length), (20, 0));
@@ -833,6 +876,26 @@ fn images() {
     }
     for length in [36, 52, 339] {
         same(&|bytes| bytes.truncate(length), (21, 3));
+    }
+}
+
+#[test]
+fn lengths_of_image_reports() {
+    for room in [0, 1, 3, 5] {
+        let same = |spoil: &dyn Fn(&mut Vec<u8>), outcome| {
+            let mut bytes = image();
+            spoil(&mut bytes);
+            assert_eq!(read(&bytes, &case(), room), (outcome, outcome));
+        };
+        same(&|_| {}, (3, 0));
+        // 20 to 22, 1 and 2 come first; a report without a number has no place
+        let place = |place: usize| if room == 0 { 0 } else { place };
+        same(&|bytes| bytes.truncate(35), (20, 0));
+        same(&|bytes| put(bytes, 20, 0), (21, place(2)));
+        same(&|bytes| put(bytes, 48, 7), (22, place(2)));
+        same(&|bytes| put(bytes, 36, 4097), (1, 0));
+        // 4 comes later
+        same(&|bytes| put(bytes, 52, 3), (3, 0));
     }
 }
 

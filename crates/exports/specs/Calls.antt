@@ -1,103 +1,100 @@
--- What each entry point answers and leaves: the call of the Rattle function, and how its answer goes to C (specs/Codes).
+-- What each C function answers and leaves: the call of the Rattle function, and how its answer goes to C (specs/Codes). A primed list is what a
+-- buffer holds at exit.
 use Prim.Native.Nat.{ℕ}
 use mathlib.Core.Path.{_≡_}
 use mathlib.Core.List.{List}
-use lib.ListN.{length, set}
+use lib.ListN.{length}
 use lib.Ieee.{Float}
-use Rattle.network.specs.Network.{Graph}
-use Rattle.graph.specs.declared.Connectivity.{Connectivity}
-use Rattle.graph.specs.declared.Listing.{Listing}
-use Rattle.graph.specs.Outcome.{ConnectivityCall, ListingCall}
-use Rattle.system.specs.declared.work.Length.{Length}
+use Rattle.network.specs.declared.Shape.{Shape}
 use Rattle.network.specs.declared.Verdict.{Verdict}
-use Rattle.recover.specs.Recover.{dotsOf, scalesOf}
-use Rattle.recover.specs.Contracts.{Placed, camerasOf, Filled}
-use Rattle.placement.specs.declared.Answer.{Answer}
+use Rattle.network.specs.declared.Verdict.the-variants.{Passed}
+use Rattle.network.specs.Network.{Graph}
+use Rattle.network.specs.Refusals.{verdict, countTests}
+use Rattle.graph.specs.Outcome.{ConnectivityCall, ListingCall}
+use Rattle.system.specs.Work.{lengthOf}
+use Rattle.recover.specs.Contracts.{Placed, DotsFilled, ScalesFilled}
 use Rattle.placement.specs.Routes.{Submission}
 use Rattle.placement.specs.Solved.{Solved}
 use Rattle.layout.specs.Image.{Content}
-use Rattle.image.specs.declared.Counted.{Counted}
-use Rattle.image.specs.declared.Written.{Written}
+use Rattle.image.specs.Tests.{countsTests}
 use Rattle.image.specs.Calls.{Lists, countsOf, Reads, Writes}
 use Rattle.lists.specs.PointLists.{PointListsCall}
-use Rattle.exports.specs.Codes.{connectivityCode, connectivityReport, listingCode, listingReport, lengthCode, lengthReport}
-use Rattle.exports.specs.Codes.{verdictCode, verdictReport, answerCode, answerReport}
-use Rattle.exports.specs.Codes.{countedCode, countedReport, writtenCode, writtenReport}
+use Rattle.exports.specs.Codes.{one, connectivityCode, connectivityReport, listingCode, listingReport, lengthCode, lengthReport}
+use Rattle.exports.specs.Codes.{verdictCode, verdictReport, writtenCode, writtenReport, answerCode, answerReport}
+use Rattle.exports.specs.Codes.{countedCode, countedReport, Unreported}
 
-pub record ConnectedCall (g : Graph) (code : ℕ) (nodes nodes' report report' : List ℕ) : Type 0 where
-  pub answer : Connectivity
-  pub call : ConnectivityCall g answer nodes nodes'
-  pub coded : code ≡ connectivityCode answer
-  pub reported : report' ≡ set report 0 (connectivityReport answer)
+-- ---- any call
 
-pub record PartsCall (g : Graph) (code : ℕ) (nodes nodes' labels labels' report report' : List ℕ) : Type 0 where
-  pub answer : Listing
-  pub call : ListingCall g answer nodes nodes' labels labels'
-  pub coded : code ≡ listingCode answer
-  pub reported : report' ≡ set report 0 (listingReport answer)
+-- The call of the Rattle function has an answer, which goes to C as a code and a report.
+pub record Answered {A : Type 0} (Call : A → Type 0) (codeOf : A → ℕ) (reportOf : A → List ℕ → List ℕ) (code : ℕ) (report report' : List ℕ)
+    : Type 0 where
+  pub answer : A
+  pub call : Call answer
+  pub coded : code ≡ codeOf answer
+  pub reported : report' ≡ reportOf answer report
 
-pub record LengthCall (answer : Length) (code : ℕ) (report report' : List ℕ) : Type 0 where
-  pub coded : code ≡ lengthCode answer
-  pub reported : report' ≡ set report 0 (lengthReport answer)
+-- A call whose report must have k numbers. The report's length is one of those that 3 tests ('a length differs from its count'), and 3 has its
+-- turn after the tests before it, whose verdict is `earlier` (document 01, 'Refused calls': '1 to 8, and 20 to 22, are tested in number order').
+-- Where the report has another length, `Kept` says that every other buffer holds what it held.
+pub record Reporting {A : Type 0} (k : ℕ) (earlier : Verdict) (Kept : Type 0) (Call : A → Type 0) (codeOf : A → ℕ)
+    (reportOf : A → List ℕ → List ℕ) (code : ℕ) (report report' : List ℕ) : Type 0 where
+  pub whole : length report ≡ k → Answered Call codeOf reportOf code report report'
+  pub otherwise : (length report ≡ k → ⊥) → Unreported earlier code report report'
+  pub kept : (length report ≡ k → ⊥) → Kept
 
--- dots or scales: xs is what a call that refuses nothing fills its output with
-pub record FilledCall (i : Placed) (xs : List Float) (code : ℕ) (out out' : List Float) (report report' : List ℕ) : Type 0 where
-  pub answer : Verdict
-  pub call : Filled i xs answer out out'
-  pub coded : code ≡ verdictCode answer
-  pub reported : report' ≡ set report 0 (verdictReport answer)
+-- 1 and 2 come before 3
+abbrev pub countVerdict : Shape → Verdict
+countVerdict s = verdict (countTests s)
 
-abbrev pub DotsCall : Placed → ℕ → List Float → List Float → List ℕ → List ℕ → Type 0
-DotsCall i = FilledCall i (dotsOf (i .net) (camerasOf i))
+-- ---- graph calls
 
-abbrev pub ScalesCall : Placed → ℕ → List Float → List Float → List ℕ → List ℕ → Type 0
-ScalesCall i = FilledCall i (scalesOf (i .net) (camerasOf i))
+abbrev pub ConnectedCall : (g : Graph) (code : ℕ) (nodes nodes' report report' : List ℕ) → Type 0
+ConnectedCall g code nodes nodes' =
+    Reporting 1 (countVerdict (g .shape)) (nodes' ≡ nodes) (λ a. ConnectivityCall g a nodes nodes') connectivityCode (one connectivityReport) code
 
--- where the report has three numbers
-pub record Reported (i : Submission) (code : ℕ)
-    (work work' cameras cameras' points points' : List Float) (report report' : List ℕ) : Type 0 where
-  pub answer : Answer
-  pub call : Solved i answer work work' cameras cameras' points points'
-  pub coded : code ≡ answerCode answer
-  pub reported : report' ≡ answerReport answer report
+abbrev pub PartsCall : (g : Graph) (code : ℕ) (nodes nodes' labels labels' report report' : List ℕ) → Type 0
+PartsCall g code nodes nodes' labels labels' =
+    Reporting 1 (countVerdict (g .shape)) ((nodes' ≡ nodes) × (labels' ≡ labels))
+    (λ a. ListingCall g a nodes nodes' labels labels') listingCode (one listingReport) code
 
--- where it has not
-pub record Unreported (code : ℕ) (work work' cameras cameras' points points' : List Float) (report report' : List ℕ) : Type 0 where
-  pub coded : code ≡ 3
-  pub workKept : work' ≡ work
-  pub camerasKept : cameras' ≡ cameras
-  pub pointsKept : points' ≡ points
-  pub reportKept : report' ≡ report
+-- ---- the length of the work buffer
 
-pub record SolveCall (i : Submission) (code : ℕ)
-    (work work' cameras cameras' points points' : List Float) (report report' : List ℕ) : Type 0 where
-  pub whole : length report ≡ 3 → Reported i code work work' cameras cameras' points points' report report'
-  pub otherwise : (length report ≡ 3 → ⊥) → Unreported code work work' cameras cameras' points points' report report'
+abbrev pub LengthCall : (s : Shape) (route limit code : ℕ) (report report' : List ℕ) → Type 0
+LengthCall s route limit = Reporting 1 (countVerdict s) Unit (λ a. a ≡ lengthOf s route limit) lengthCode (one lengthReport)
 
--- the bytes l of an image
-pub record CountsCall (l : List ℕ) (code : ℕ) (report report' : List ℕ) : Type 0 where
-  pub whole : length report ≡ 4 → (code ≡ countedCode (countsOf l)) × (report' ≡ countedReport (countsOf l) report)
-  pub otherwise : (length report ≡ 4 → ⊥) → (code ≡ 3) × (report' ≡ report)
+-- ---- dots and scales
 
--- where the report has four numbers; `left` is what the five lists of `lent` hold after the call
-pub record ReadReported (l : List ℕ) (lent left : Lists) (code : ℕ) (report report' : List ℕ) : Type 0 where
-  pub answer : Counted
-  pub call : Reads l lent answer left
-  pub coded : code ≡ countedCode answer
-  pub reported : report' ≡ countedReport answer report
+abbrev pub DotsCall : (i : Placed) (code : ℕ) (out out' : List Float) (report report' : List ℕ) → Type 0
+DotsCall i code out out' =
+    Reporting 1 (countVerdict (i .net .shape)) (out' ≡ out) (λ a. DotsFilled i a out out') verdictCode (one verdictReport) code
 
-pub record ReadCall (l : List ℕ) (lent left : Lists) (code : ℕ) (report report' : List ℕ) : Type 0 where
-  pub whole : length report ≡ 4 → ReadReported l lent left code report report'
-  pub otherwise : (length report ≡ 4 → ⊥) → (code ≡ 3) × (left ≡ lent) × (report' ≡ report)
+abbrev pub ScalesCall : (i : Placed) (code : ℕ) (out out' : List Float) (report report' : List ℕ) → Type 0
+ScalesCall i code out out' =
+    Reporting 1 (countVerdict (i .net .shape)) (out' ≡ out) (λ a. ScalesFilled i a out out') verdictCode (one verdictReport) code
 
-pub record WriteCall (c : Content) (out out' : List ℕ) (code : ℕ) (report report' : List ℕ) : Type 0 where
-  pub answer : Written
-  pub call : Writes c out answer out'
-  pub coded : code ≡ writtenCode answer
-  pub reported : report' ≡ set report 0 (writtenReport answer)
+-- ---- the solve
 
-pub record ListCall (m b : ℕ) (ends offsets offsets' listed listed' : List ℕ) (code : ℕ) (report report' : List ℕ) : Type 0 where
-  pub answer : Verdict
-  pub call : PointListsCall m b ends offsets listed answer offsets' listed'
-  pub coded : code ≡ verdictCode answer
-  pub reported : report' ≡ set report 0 (verdictReport answer)
+abbrev pub SolveCall : (i : Submission) (code : ℕ) (work work' cameras cameras' points points' : List Float) (report report' : List ℕ) → Type 0
+SolveCall i code work work' cameras cameras' points points' =
+    Reporting 3 (countVerdict (i .net .shape)) ((work' ≡ work) × (cameras' ≡ cameras) × (points' ≡ points))
+    (λ a. Solved i a work work' cameras cameras' points points') answerCode answerReport code
+
+-- ---- images: 20 to 22, and then 1 and 2, come before 3
+
+-- the counts of the bytes l
+abbrev pub CountsCall : (l : List ℕ) (code : ℕ) (report report' : List ℕ) → Type 0
+CountsCall l = Reporting 4 (verdict (countsTests l)) Unit (λ a. a ≡ countsOf l) countedCode countedReport
+
+-- the bytes l, read; `left` is what the five lists of `lent` hold afterwards
+abbrev pub ReadCall : (l : List ℕ) (lent left : Lists) (code : ℕ) (report report' : List ℕ) → Type 0
+ReadCall l lent left = Reporting 4 (verdict (countsTests l)) (left ≡ lent) (λ a. Reads l lent a left) countedCode countedReport
+
+abbrev pub WriteCall : (c : Content) (out out' : List ℕ) (code : ℕ) (report report' : List ℕ) → Type 0
+WriteCall c out out' = Reporting 1 (countVerdict (c .shape)) (out' ≡ out) (λ a. Writes c out a out') writtenCode (one writtenReport)
+
+-- ---- point lists: nothing comes before 3
+
+abbrev pub ListCall : (m b : ℕ) (ends offsets offsets' listed listed' : List ℕ) (code : ℕ) (report report' : List ℕ) → Type 0
+ListCall m b ends offsets offsets' listed listed' =
+    Reporting 1 Passed ((offsets' ≡ offsets) × (listed' ≡ listed))
+    (λ a. PointListsCall m b ends offsets listed a offsets' listed') verdictCode (one verdictReport)

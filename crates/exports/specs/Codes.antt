@@ -1,12 +1,13 @@
--- How an answer goes to C: a code, 0 or the refusal's number, and the first number of the lent report: what was asked, or the refusal's place.
+-- How an answer goes to C: a code, 0 or the refusal's number, and the lent report: what was asked, or the refusal's place as its first number
+-- (document 01: 'A refusal returns number and place').
 use Prim.Native.Nat.{ℕ}
-use mathlib.Core.List.{List}
+use mathlib.Core.Path.{_≡_}
+use mathlib.Core.List.{List, [], _∷_}
 use lib.ListN.{set}
 use Rattle.graph.specs.declared.Connectivity.{Connectivity}
 use Rattle.graph.specs.declared.Connectivity.the-variants as connectivity
 use Rattle.graph.specs.declared.Listing.{Listing}
 use Rattle.graph.specs.declared.Listing.the-variants as listing
-use Rattle.network.specs.declared.Shape.{Shape}
 use Rattle.system.specs.declared.work.Length.{Length}
 use Rattle.system.specs.declared.work.Length.the-variants as needed
 use Rattle.network.specs.declared.Verdict.{Verdict}
@@ -17,6 +18,12 @@ use Rattle.image.specs.declared.Counted.{Counted}
 use Rattle.image.specs.declared.Counted.the-variants as counted
 use Rattle.image.specs.declared.Written.{Written}
 use Rattle.image.specs.declared.Written.the-variants as written
+
+-- ---- a report of one number
+
+-- what f tells of an answer
+abbrev pub one : {A : Type 0} → (A → ℕ) → A → List ℕ → List ℕ
+one f answer report = f answer ∷ []
 
 -- connected is 1, not connected 0
 abbrev pub connectivityCode : Connectivity → ℕ
@@ -56,27 +63,6 @@ abbrev pub verdictReport : Verdict → ℕ
 verdictReport (verdict.Refused r) = r .place
 verdictReport verdict.Passed = 0
 
--- a solve's report has three numbers: anchor, route, rounds
-abbrev pub answerCode : Answer → ℕ
-answerCode (solving.Refused r) = r .number
-answerCode (solving.Accepted p) = 0
-
-abbrev pub answerReport : Answer → List ℕ → List ℕ
-answerReport (solving.Refused r) old = set old 0 (r .place)
-answerReport (solving.Accepted p) old = set (set (set old 0 (p .anchor)) 1 (p .route)) 2 (p .rounds)
-
--- an image's report has four numbers: n, m, B, E
-abbrev pub shapeReport : Shape → List ℕ → List ℕ
-shapeReport s old = set (set (set (set old 0 (s .cameras)) 1 (s .points)) 2 (s .bearings)) 3 (s .directions)
-
-abbrev pub countedCode : Counted → ℕ
-countedCode (counted.Refused r) = r .number
-countedCode (counted.Of s) = 0
-
-abbrev pub countedReport : Counted → List ℕ → List ℕ
-countedReport (counted.Refused r) old = set old 0 (r .place)
-countedReport (counted.Of s) old = shapeReport s old
-
 -- the bytes written
 abbrev pub writtenCode : Written → ℕ
 writtenCode (written.Refused r) = r .number
@@ -85,3 +71,39 @@ writtenCode (written.Bytes k) = 0
 abbrev pub writtenReport : Written → ℕ
 writtenReport (written.Refused r) = r .place
 writtenReport (written.Bytes k) = k
+
+-- ---- a solve's report of three numbers: anchor, route, rounds (document 01: 'An accepted solve reports ..')
+
+abbrev pub answerCode : Answer → ℕ
+answerCode (solving.Refused r) = r .number
+answerCode (solving.Accepted p) = 0
+
+abbrev pub answerReport : Answer → List ℕ → List ℕ
+answerReport (solving.Refused r) report = set report 0 (r .place)
+answerReport (solving.Accepted p) report = p .anchor ∷ p .route ∷ p .rounds ∷ []
+
+-- ---- an image's report of four numbers: n, m, B, E
+
+abbrev pub countedCode : Counted → ℕ
+countedCode (counted.Refused r) = r .number
+countedCode (counted.Of s) = 0
+
+abbrev pub countedReport : Counted → List ℕ → List ℕ
+countedReport (counted.Refused r) report = set report 0 (r .place)
+countedReport (counted.Of s) report = s .cameras ∷ s .points ∷ s .bearings ∷ s .directions ∷ []
+
+-- ---- where the report has not its length: 3 in its turn, by the verdict of the tests before 3
+
+-- the refusal of those tests, else 3
+abbrev pub unreportedCode : Verdict → ℕ
+unreportedCode (verdict.Refused r) = r .number
+unreportedCode verdict.Passed = 3
+
+-- the place of that refusal as the first number, if there is one; a report that is refused itself is left
+abbrev pub unreportedReport : Verdict → List ℕ → List ℕ
+unreportedReport (verdict.Refused r) report = set report 0 (r .place)
+unreportedReport verdict.Passed report = report
+
+pub record Unreported (earlier : Verdict) (code : ℕ) (report report' : List ℕ) : Type 0 where
+  pub coded : code ≡ unreportedCode earlier
+  pub reported : report' ≡ unreportedReport earlier report

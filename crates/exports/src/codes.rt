@@ -3,22 +3,37 @@ use graph::Connectivity;
 use graph::Listing;
 use image::Counted;
 use image::Written;
-use network::Shape;
 use network::Verdict;
 use placement::Answer;
 use system::work::Length;
 ghost use mathlib.Core.Path.{_≡_};
-ghost use lib.ListN.{length, set as stored};
+ghost use mathlib.Core.List.{[], _∷_};
+ghost use lib.ListN.{length};
 ghost use Rattle.exports.specs.Codes.{connectivityCode, connectivityReport, listingCode, listingReport, lengthCode, lengthReport};
 ghost use Rattle.exports.specs.Codes.{verdictCode, verdictReport, answerCode, answerReport, countedCode, countedReport};
-ghost use Rattle.exports.specs.Codes.{shapeReport, writtenCode, writtenReport};
+ghost use Rattle.exports.specs.Codes.{writtenCode, writtenReport, Unreported};
 
-// x as the first number of a report that has one.
+// x in a report of one number.
 pub(crate) fn put(report: &mut [usize], x: usize)
-    ensures { λ _. ⌜ now (report .exit) ≡ stored (now (report .entry)) 0 x ⌝ }
+    requires { ⌜ length (now report) ≡ 1 ⌝ }
+    ensures { λ _. ⌜ now (report .exit) ≡ x ∷ [] ⌝ }
 {
-    if 0 < report.len() {
-        report[0] = x;
+    report[0] = x;
+}
+
+// The code where the report has not its length, by the verdict of the tests before 3: their refusal, its place as the first number of a report
+// that has one; else 3, and the report is left.
+pub(crate) fn unreported(report: &mut [usize], earlier: Verdict) -> usize
+    ensures { λ r. ⌜ Unreported earlier r (now (report .entry)) (now (report .exit)) ⌝ }
+{
+    match earlier {
+        Verdict::Refused(first) => {
+            if 0 < report.len() {
+                report[0] = first.place;
+            }
+            first.number
+        }
+        Verdict::Passed => 3,
     }
 }
 
@@ -96,6 +111,24 @@ pub(crate) fn verdict_report(a: Verdict) -> usize
     }
 }
 
+pub(crate) fn written_code(a: Written) -> usize
+    ensures { λ r. ⌜ r ≡ writtenCode a ⌝ }
+{
+    match a {
+        Written::Refused(r) => r.number,
+        Written::Bytes(_) => 0,
+    }
+}
+
+pub(crate) fn written_report(a: Written) -> usize
+    ensures { λ r. ⌜ r ≡ writtenReport a ⌝ }
+{
+    match a {
+        Written::Refused(r) => r.place,
+        Written::Bytes(k) => k,
+    }
+}
+
 pub(crate) fn answer_code(a: Answer) -> usize
     ensures { λ r. ⌜ r ≡ answerCode a ⌝ }
 {
@@ -131,18 +164,7 @@ pub(crate) fn counted_code(a: Counted) -> usize
     }
 }
 
-// n, m, B, E in a report of four numbers.
-fn put_shape(report: &mut [usize], s: Shape)
-    requires { ⌜ length (now report) ≡ 4 ⌝ }
-    ensures { λ _. ⌜ now (report .exit) ≡ shapeReport s (now (report .entry)) ⌝ }
-{
-    report[0] = s.cameras;
-    report[1] = s.points;
-    report[2] = s.bearings;
-    report[3] = s.directions;
-}
-
-// The place of a refusal, or the four counts.
+// The place of a refusal, or n, m, B, E, in a report of four numbers.
 pub(crate) fn put_counted(report: &mut [usize], a: Counted)
     requires { ⌜ length (now report) ≡ 4 ⌝ }
     ensures { λ _. ⌜ now (report .exit) ≡ countedReport a (now (report .entry)) ⌝ }
@@ -152,25 +174,10 @@ pub(crate) fn put_counted(report: &mut [usize], a: Counted)
             report[0] = r.place;
         }
         Counted::Of(s) => {
-            put_shape(report, s);
+            report[0] = s.cameras;
+            report[1] = s.points;
+            report[2] = s.bearings;
+            report[3] = s.directions;
         }
-    }
-}
-
-pub(crate) fn written_code(a: Written) -> usize
-    ensures { λ r. ⌜ r ≡ writtenCode a ⌝ }
-{
-    match a {
-        Written::Refused(r) => r.number,
-        Written::Bytes(_) => 0,
-    }
-}
-
-pub(crate) fn written_report(a: Written) -> usize
-    ensures { λ r. ⌜ r ≡ writtenReport a ⌝ }
-{
-    match a {
-        Written::Refused(r) => r.place,
-        Written::Bytes(k) => k,
     }
 }

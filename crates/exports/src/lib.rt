@@ -1,4 +1,5 @@
-// The entry points for C and Rust to link. A slice is a pointer and then a length.
+// The entry points for C and Rust to link. A slice is a pointer and then a length. A call answers 0, or a refusal's number with its place as the
+// report's first number. A report of another length than the call's is refused by 3, in its turn after the tests before 3.
 mod codes;
 
 use codes::answer_code;
@@ -12,11 +13,14 @@ use codes::listing_report;
 use codes::put;
 use codes::put_answer;
 use codes::put_counted;
+use codes::unreported;
 use codes::verdict_code;
 use codes::verdict_report;
 use codes::written_code;
 use codes::written_report;
 use network::Shape;
+use network::Verdict;
+use network::check_counts;
 ghost use mathlib.Core.Path.{_≡_};
 ghost use mathlib.Core.Bool.{not};
 ghost use lib.Dec.{eqb};
@@ -24,7 +28,6 @@ ghost use lib.Ieee.{binary64};
 ghost use lib.ListN.{length};
 ghost use Rattle.sqrt.specs.Root.{root};
 ghost use Rattle.network.specs.Network.{shape as shapeOf, graph as graphOf, network as networkOf};
-ghost use Rattle.system.specs.Work.{lengthOf};
 ghost use Rattle.recover.specs.Contracts.{placed as placedOf};
 ghost use Rattle.placement.specs.Routes.{submission};
 ghost use Rattle.layout.specs.Image.{content};
@@ -51,7 +54,7 @@ pub extern "C" fn vobzeile_sqrt(x: f64) -> f64
     sqrt::sqrt(x)
 }
 
-// Whether a walk of joined nodes leads from camera 0 to every camera: 0 with 1 or 0 in the report, or the refusal's number with its place there.
+// Whether a walk of joined nodes leads from camera 0 to every camera: reports 1 or 0.
 #[no_mangle]
 pub extern "C" fn vobzeile_connected(
     n: usize,
@@ -66,12 +69,16 @@ pub extern "C" fn vobzeile_connected(
     ensures { λ r. ⌜ ConnectedCall (graphOf (shapeOf n m b e) (now (ends .entry)) (now (weights .entry))) r
         (now (nodes .entry)) (now (nodes .exit)) (now (report .entry)) (now (report .exit)) ⌝ }
 {
-    let answer = graph::is_connected(shape(n, m, b, e), ends, weights, nodes);
+    let s = shape(n, m, b, e);
+    if report.len() != 1 {
+        return unreported(report, check_counts(s));
+    }
+    let answer = graph::is_connected(s, ends, weights, nodes);
     put(report, connectivity_report(answer));
     connectivity_code(answer)
 }
 
-// The parts listing: 0 with the number of parts in the report, or the refusal's number with its place there.
+// The parts listing: reports the number of parts.
 #[no_mangle]
 pub extern "C" fn vobzeile_parts(
     n: usize,
@@ -87,12 +94,16 @@ pub extern "C" fn vobzeile_parts(
     ensures { λ r. ⌜ PartsCall (graphOf (shapeOf n m b e) (now (ends .entry)) (now (weights .entry))) r
         (now (nodes .entry)) (now (nodes .exit)) (now (labels .entry)) (now (labels .exit)) (now (report .entry)) (now (report .exit)) ⌝ }
 {
-    let answer = graph::parts(shape(n, m, b, e), ends, weights, nodes, labels);
+    let s = shape(n, m, b, e);
+    if report.len() != 1 {
+        return unreported(report, check_counts(s));
+    }
+    let answer = graph::parts(s, ends, weights, nodes, labels);
     put(report, listing_report(answer));
     listing_code(answer)
 }
 
-// The doubles that the work buffer of a solve needs, in the report: 0, or the refusal's number with its place there.
+// Reports the doubles that the work buffer of a solve needs.
 #[no_mangle]
 pub extern "C" fn vobzeile_work_length(
     n: usize,
@@ -103,15 +114,18 @@ pub extern "C" fn vobzeile_work_length(
     limit: usize,
     report: &mut [usize],
 ) -> usize
-    ensures { λ r. ⌜ LengthCall (lengthOf (shapeOf n m b e) route limit) r (now (report .entry)) (now (report .exit)) ⌝ }
+    ensures { λ r. ⌜ LengthCall (shapeOf n m b e) route limit r (now (report .entry)) (now (report .exit)) ⌝ }
 {
-    let answer = system::work::work_length(shape(n, m, b, e), route, limit);
+    let s = shape(n, m, b, e);
+    if report.len() != 1 {
+        return unreported(report, check_counts(s));
+    }
+    let answer = system::work::work_length(s, route, limit);
     put(report, length_report(answer));
     length_code(answer)
 }
 
-// The dot of each row with its baseline, bearings first: 0, or the refusal's number with its place in the report. The cameras are those of
-// `trial` where the mark is not 0, else of `current`.
+// The dot of each row with its baseline, bearings first: reports 0. The cameras are those of `trial` where the mark is not 0, else of `current`.
 #[no_mangle]
 pub extern "C" fn vobzeile_dots<'a>(
     n: usize,
@@ -137,8 +151,12 @@ pub extern "C" fn vobzeile_dots<'a>(
         (now (current .entry)) (now (trial .entry)) (not (eqb mark 0)) (length (now (out .entry))))
         r (now (out .entry)) (now (out .exit)) (now (report .entry)) (now (report .exit)) ⌝ }
 {
-    let verdict = recover::dots(
-        shape(n, m, b, e),
+    let s = shape(n, m, b, e);
+    if report.len() != 1 {
+        return unreported(report, check_counts(s));
+    }
+    let answer = recover::dots(
+        s,
         ends,
         rays,
         weights,
@@ -151,12 +169,11 @@ pub extern "C" fn vobzeile_dots<'a>(
         mark != 0,
         out,
     );
-    put(report, verdict_report(verdict));
-    verdict_code(verdict)
+    put(report, verdict_report(answer));
+    verdict_code(answer)
 }
 
-// The scale of each row, kept or renewed, bearings first: 0, or the refusal's number with its place in the report. The cameras are those of
-// `trial` where the mark is not 0, else of `current`.
+// The scale of each row, kept or renewed, bearings first: reports 0. The cameras are those of `trial` where the mark is not 0, else of `current`.
 #[no_mangle]
 pub extern "C" fn vobzeile_scales<'a>(
     n: usize,
@@ -182,8 +199,12 @@ pub extern "C" fn vobzeile_scales<'a>(
         (now (current .entry)) (now (trial .entry)) (not (eqb mark 0)) (length (now (out .entry))))
         r (now (out .entry)) (now (out .exit)) (now (report .entry)) (now (report .exit)) ⌝ }
 {
-    let verdict = recover::scales(
-        shape(n, m, b, e),
+    let s = shape(n, m, b, e);
+    if report.len() != 1 {
+        return unreported(report, check_counts(s));
+    }
+    let answer = recover::scales(
+        s,
         ends,
         rays,
         weights,
@@ -196,12 +217,11 @@ pub extern "C" fn vobzeile_scales<'a>(
         mark != 0,
         out,
     );
-    put(report, verdict_report(verdict));
-    verdict_code(verdict)
+    put(report, verdict_report(answer));
+    verdict_code(answer)
 }
 
-// The solve: 0 with anchor, route and rounds in the report, or the refusal's number with its place as the report's first number. A report
-// that has not three numbers is refused before all else, by 3, and nothing is changed.
+// The solve: reports anchor, route and rounds.
 #[no_mangle]
 pub extern "C" fn vobzeile_solve(
     n: usize,
@@ -229,11 +249,12 @@ pub extern "C" fn vobzeile_solve(
         r (now (work .entry)) (now (work .exit)) (now (cameras .entry)) (now (cameras .exit)) (now (placed .entry)) (now (placed .exit))
         (now (report .entry)) (now (report .exit)) ⌝ }
 {
+    let s = shape(n, m, b, e);
     if report.len() != 3 {
-        return 3;
+        return unreported(report, check_counts(s));
     }
     let answer = placement::solve(
-        shape(n, m, b, e),
+        s,
         ends,
         rays,
         weights,
@@ -251,21 +272,20 @@ pub extern "C" fn vobzeile_solve(
     answer_code(answer)
 }
 
-// The counts of an image: 0 with n, m, B, E in the report, or the refusal's number with its place as the report's first number. A report that
-// has not four numbers is refused before all else, by 3, and nothing is changed.
+// The counts of an image: reports n, m, B, E.
 #[no_mangle]
 pub extern "C" fn vobzeile_counts(bytes: &[u8], report: &mut [usize]) -> usize
     ensures { λ r. ⌜ CountsCall (now (bytes .entry)) r (now (report .entry)) (now (report .exit)) ⌝ }
 {
     if report.len() != 4 {
-        return 3;
+        return unreported(report, image::check_counted(bytes));
     }
     let answer = image::counts(bytes);
     put_counted(report, answer);
     counted_code(answer)
 }
 
-// Reads an image into slices that its counts fit; code and report as of the counts.
+// Reads an image into slices that its counts fit: reports n, m, B, E.
 #[no_mangle]
 pub extern "C" fn vobzeile_read(
     bytes: &[u8],
@@ -282,14 +302,14 @@ pub extern "C" fn vobzeile_read(
         r (now (report .entry)) (now (report .exit)) ⌝ }
 {
     if report.len() != 4 {
-        return 3;
+        return unreported(report, image::check_counted(bytes));
     }
     let answer = image::read(bytes, ends, rays, weights, scales, points);
     put_counted(report, answer);
     counted_code(answer)
 }
 
-// Writes the image of a network: 0 with the bytes written in the report, or the refusal's number with its place there.
+// Writes the image of a network: reports the bytes written.
 #[no_mangle]
 pub extern "C" fn vobzeile_write(
     n: usize,
@@ -308,12 +328,16 @@ pub extern "C" fn vobzeile_write(
         (content (shapeOf n m b e) (now (ends .entry)) (now (rays .entry)) (now (weights .entry)) (now (scales .entry)) (now (points .entry)))
         (now (out .entry)) (now (out .exit)) r (now (report .entry)) (now (report .exit)) ⌝ }
 {
-    let answer = image::write(shape(n, m, b, e), ends, rays, weights, scales, points, out);
+    let s = shape(n, m, b, e);
+    if report.len() != 1 {
+        return unreported(report, check_counts(s));
+    }
+    let answer = image::write(s, ends, rays, weights, scales, points, out);
     put(report, written_report(answer));
     written_code(answer)
 }
 
-// The point lists of a network's rows: 0, or the refusal's number with its place in the report.
+// The point lists of a network's rows: reports 0.
 #[no_mangle]
 pub extern "C" fn vobzeile_list_points(
     m: usize,
@@ -326,7 +350,10 @@ pub extern "C" fn vobzeile_list_points(
     ensures { λ r. ⌜ ListCall m b (now (ends .entry)) (now (offsets .entry)) (now (offsets .exit)) (now (listed .entry)) (now (listed .exit)) r
         (now (report .entry)) (now (report .exit)) ⌝ }
 {
-    let verdict = lists::list_points(m, b, ends, offsets, listed);
-    put(report, verdict_report(verdict));
-    verdict_code(verdict)
+    if report.len() != 1 {
+        return unreported(report, Verdict::Passed);
+    }
+    let answer = lists::list_points(m, b, ends, offsets, listed);
+    put(report, verdict_report(answer));
+    verdict_code(answer)
 }

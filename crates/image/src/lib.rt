@@ -55,7 +55,7 @@ fn shape_at(bytes: &[u8], p: usize) -> Shape
 }
 
 // 20 to 22, then 1 and 2.
-fn check_counted(bytes: &[u8]) -> Verdict
+pub fn check_counted(bytes: &[u8]) -> Verdict
     ensures { λ r. ⌜ r ≡ verdict (countsTests (now (bytes .entry))) ⌝ }
 {
     let image = check_image(bytes);

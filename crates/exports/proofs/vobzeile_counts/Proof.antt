@@ -1,4 +1,4 @@
-use Rattle.exports.proofs.Calls.{counts-unreported, counts-done}
+use Rattle.exports.proofs.Calls.{undone, counts-done}
 use borrow.Author.Needs.{needs}
 use Rattle.exports.proofs.vobzeile_counts.Statement.{statement}
 use Rattle.exports.proofs.vobzeile_counts.Tie as tie
@@ -7,7 +7,10 @@ pub vobzeile-counts-spec : {M : Type 1} → statement M
 vobzeile-counts-spec =
     tie.close
     (tie.spec
-    (λ c. search counts-unreported)
+    (λ c κs. search needs)
+    (λ c κs. search needs)
+    (λ c. search needs)
+    (λ c. search undone)
     (λ c κs. search needs)
     (λ c κs. search needs)
     (λ c κs. search needs)

@@ -1,4 +1,4 @@
-use Rattle.exports.proofs.Calls.{list-done}
+use Rattle.exports.proofs.Calls.{undone, list-done}
 use borrow.Author.Needs.{needs}
 use Rattle.exports.proofs.vobzeile_list_points.Statement.{statement}
 use Rattle.exports.proofs.vobzeile_list_points.Tie as tie
@@ -7,6 +7,9 @@ pub vobzeile-list-points-spec : {M : Type 1} → statement M
 vobzeile-list-points-spec =
     tie.close
     (tie.spec
+    (λ c κs. search needs)
+    (λ c. search needs)
+    (λ c. search undone)
     (λ c κs. search needs)
     (λ c κs. search needs)
     (λ c κs. search needs)

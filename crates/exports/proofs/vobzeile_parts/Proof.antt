@@ -1,4 +1,4 @@
-use Rattle.exports.proofs.Calls.{parts-done}
+use Rattle.exports.proofs.Calls.{counts-undone, parts-done}
 use borrow.Author.Needs.{needs}
 use Rattle.exports.proofs.vobzeile_parts.Statement.{statement}
 use Rattle.exports.proofs.vobzeile_parts.Tie as tie
@@ -8,6 +8,10 @@ vobzeile-parts-spec =
     tie.close
     (tie.spec
     (λ c κs. search needs)
+    (λ c κs. search needs)
+    (λ c κs. search needs)
+    (λ c. search needs)
+    (λ c. search counts-undone)
     (λ c κs. search needs)
     (λ c κs. search needs)
     (λ c κs. search needs)

@@ -1,4 +1,4 @@
-use Rattle.exports.proofs.Calls.{read-unreported, read-done}
+use Rattle.exports.proofs.Calls.{undone, read-done}
 use borrow.Author.Needs.{needs}
 use Rattle.exports.proofs.vobzeile_read.Statement.{statement}
 use Rattle.exports.proofs.vobzeile_read.Tie as tie
@@ -7,7 +7,10 @@ pub vobzeile-read-spec : {M : Type 1} → statement M
 vobzeile-read-spec =
     tie.close
     (tie.spec
-    (λ c. search read-unreported)
+    (λ c κs. search needs)
+    (λ c κs. search needs)
+    (λ c. search needs)
+    (λ c. search undone)
     (λ c κs. search needs)
     (λ c κs. search needs)
     (λ c κs. search needs)

@@ -1,4 +1,4 @@
-use Rattle.exports.proofs.Calls.{answer-refused, answer-accepted}
+use Rattle.exports.proofs.Reports.{answer-refused, answer-accepted}
 use borrow.Author.Needs.{needs}
 use Rattle.exports.proofs.codes.put_answer.Statement.{statement}
 use Rattle.exports.proofs.codes.put_answer.Tie as tie

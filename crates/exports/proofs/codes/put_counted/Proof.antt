@@ -1,4 +1,4 @@
-use Rattle.exports.proofs.Calls.{counted-refused, counted-of}
+use Rattle.exports.proofs.Reports.{counted-refused, counted-of}
 use borrow.Author.Needs.{needs}
 use Rattle.exports.proofs.codes.put_counted.Statement.{statement}
 use Rattle.exports.proofs.codes.put_counted.Tie as tie
@@ -10,7 +10,10 @@ put-counted-spec =
     (λ c. search needs)
     (λ c. search needs)
     (λ c. search needs)
-    (λ c κs. search needs)
+    (λ c. search needs)
+    (λ c. search needs)
+    (λ c. search needs)
+    (λ c. search needs)
     (λ c. search needs)
     (λ c. search counted-refused)
     (λ c. search needs)
