@@ -81,8 +81,8 @@ lines net parts (rejected r) = refusedLine r
 lines net parts (failing r) = refusedLine r
 lines net parts (placed p cameras) = placedLines (net .shape) parts p cameras (pointsOf net cameras)
 
--- Demand 3, of the cameras that are printed: the text has the bits of cameras for which `Meaning` has a field for each clause of the demand, with the
--- anchor a and the k rounds that it reports. (`problem` is the system that the network forms.)
+-- Demand 3, of what is printed. The text has the bits of these cameras, and of them, the anchor a and the k rounds that it reports all of the demand
+-- is true: `Meaning` has a field for each clause. (`problem` is the system that the network forms.)
 pub record CamerasMeant (net : Network) (parts a k : ℕ) (text : List ℕ) : Type 0 where
   pub cameras : List Vec3
   pub printed : text ≡ placedLines (net .shape) parts (report a 2 k) cameras (pointsOf net cameras)

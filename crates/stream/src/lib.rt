@@ -1,5 +1,5 @@
 // Reading and writing through a file descriptor, over the C library's read and write, so that a failure is told from the end of the input.
-// A call that a signal interrupts before it moves a byte is a failure too: the number of the C library's error cannot be read. (A program that
+// A call that a signal interrupts before it moves a byte is a failure too, since the number of the C library's error is not read. (A program that
 // handles no signal is not interrupted so.)
 // No contract can say which bytes come in or go out: of the C library's calls only the number of bytes is promised.
 ghost use mathlib.Core.Path.{_≡_};
