@@ -99,7 +99,7 @@ abbrev pub unreportedCode : Verdict → ℕ
 unreportedCode (verdict.Refused r) = r .number
 unreportedCode verdict.Passed = 3
 
--- the place of that refusal as the first number, if there is one; a report that is refused itself is left
+-- the place of that refusal as the first number, if there is one; a report that is refused itself is left, as every buffer is
 abbrev pub unreportedReport : Verdict → List ℕ → List ℕ
 unreportedReport (verdict.Refused r) report = set report 0 (r .place)
 unreportedReport verdict.Passed report = report
