@@ -59,15 +59,15 @@ all-false p (suc n) e = go (all p n) refl (λ q. all-false p n q)
 -- ---- numbers g k put at the places q k
 
 module _ (q : ℕ → ℕ) (g : ℕ → Float) where
-  pub record Placed (n : ℕ) (A B : List Float) : Type 0 where
+  pub record SetEach (n : ℕ) (A B : List Float) : Type 0 where
     pub size : length B ≡ length A
     pub own : (k : ℕ) → k < n → getD B (q k) nan ≡ g k
     pub rest : (r : ℕ) → ((k : ℕ) → k < n → r ≢ q k) → getD B r nan ≡ getD A r nan
 
-  pub placed-is : (n : ℕ) (A : List Float) → ((k : ℕ) → k < n → q k < length A) → ((o k : ℕ) → o < k → k < n → q o ≢ q k) → Placed n A (placed q g n A)
+  pub placed-is : (n : ℕ) (A : List Float) → ((k : ℕ) → k < n → q k < length A) → ((o k : ℕ) → o < k → k < n → q o ≢ q k) → SetEach n A (placed q g n A)
   unfolding placed
   placed-is n A below apart =
-      upto-invariant (λ (k : ℕ) (B : List Float). Placed k A B) (λ k B. set B (q k) (g k)) n A
+      upto-invariant (λ (k : ℕ) (B : List Float). SetEach k A B) (λ k B. set B (q k) (g k)) n A
       (λ k B h p. record {
         size = length-set B (q k) (g k) ∙ p .size;
         own = λ o ho.
@@ -82,7 +82,7 @@ module _ (q : ℕ → ℕ) (g : ℕ → Float) where
 -- ---- the packed columns
 
 module _ (p : List Float) (t : ℕ) (x : Four) (hp : length p ≡ 1024) (ht : t < 256) where
-  packs : Placed (λ k. 256 * k + t) (λ k. lane k x) 4 p (packedWith p t x)
+  packs : SetEach (λ k. 256 * k + t) (λ k. lane k x) 4 p (packedWith p t x)
   unfolding packedWith
   packs = placed-is _ _ 4 p (λ k h. omega arith) (λ o k b h e. omega arith)
 
@@ -111,7 +111,7 @@ module _ (d : ℕ) where
       (λ k b. lane-four d B i j k b ∙ f (j + k) (omega arith) (omega arith) ∙ sym (lane-four d A i j k b))
 
   module _ (A : List Float) (i j : ℕ) (x : Four) (hl : length A ≡ d * d) (hj : j + 3 < d) (hi : i < d) where
-    stores : Placed (λ k. i * d + (j + k)) (λ k. lane k x) 4 A (stored d A i j x)
+    stores : SetEach (λ k. i * d + (j + k)) (λ k. lane k x) 4 A (stored d A i j x)
     unfolding stored
     stores = placed-is _ _ 4 A (λ k h. let b = place-below d i (j + k) hi (omega arith) in omega arith) (λ o k b h e. omega arith)
 

@@ -15,7 +15,7 @@ use Rattle.sqrt.specs.Root.{root}
 use Rattle.cholesky.specs.Cholesky.{done, stopped, run, entry, innerStep, remainder, factorEntry, pivot, factorRow, factor}
 use Rattle.cholesky.specs.inner.Stages.{off, placed, left, Made, RowFinite, FactorCells, positive, Passed}
 use Rattle.cholesky.proofs.Places.{place-below, place-is, places-apart, below-or-not, through}
-use Rattle.cholesky.proofs.Fours.{Placed, placed-is}
+use Rattle.cholesky.proofs.Fours.{SetEach, placed-is}
 use Rattle.cholesky.proofs.Runs.{run-none, run-more, run-stops}
 use Rattle.cholesky.proofs.Factored.{entry-step, pivot-step, row-stops, row-ends}
 
@@ -58,7 +58,7 @@ module _ (d : ℕ) (s : List Float) where
   next n l = set (filled n l) (n * d + n) (pivotOf n l)
 
   module _ (n : ℕ) (l : List Float) (hl : length l ≡ d * d) (hn : n < d) where
-    fills : Placed (λ i. i * d + n) (quotientOf n l) d l (filled n l)
+    fills : SetEach (λ i. i * d + n) (quotientOf n l) d l (filled n l)
     fills = placed-is _ _ d l (λ i h. let b = place-below d i n h hn in omega arith) (λ o k b h. places-apart d o n k n (λ e. omega arith) hn hn)
 
     next-before : (i c : ℕ) → c < n → entry d (next n l) i c ≡ entry d l i c

@@ -12,7 +12,7 @@ use Rattle.network.specs.Network.{Graph}
 use Rattle.network.specs.Refusals.{verdict, countTests}
 use Rattle.graph.specs.Outcome.{ConnectivityCall, ListingCall}
 use Rattle.system.specs.Work.{lengthOf}
-use Rattle.recover.specs.Contracts.{Placed, DotsFilled, ScalesFilled}
+use Rattle.recover.specs.Contracts.{PlacedNetwork, DotsFilled, ScalesFilled}
 use Rattle.placement.specs.Routes.{Submission}
 use Rattle.placement.specs.Solved.{Solved}
 use Rattle.layout.specs.Image.{Content}
@@ -64,11 +64,11 @@ LengthCall s route limit = Reporting 1 (countVerdict s) Unit (λ a. a ≡ length
 
 -- ---- dots and scales
 
-abbrev pub DotsCall : (i : Placed) (code : ℕ) (out out' : List Float) (report report' : List ℕ) → Type 0
+abbrev pub DotsCall : (i : PlacedNetwork) (code : ℕ) (out out' : List Float) (report report' : List ℕ) → Type 0
 DotsCall i code out out' =
     Reporting 1 (countVerdict (i .net .shape)) (out' ≡ out) (λ a. DotsFilled i a out out') verdictCode (one verdictReport) code
 
-abbrev pub ScalesCall : (i : Placed) (code : ℕ) (out out' : List Float) (report report' : List ℕ) → Type 0
+abbrev pub ScalesCall : (i : PlacedNetwork) (code : ℕ) (out out' : List Float) (report report' : List ℕ) → Type 0
 ScalesCall i code out out' =
     Reporting 1 (countVerdict (i .net .shape)) (out' ≡ out) (λ a. ScalesFilled i a out out') verdictCode (one verdictReport) code
 

@@ -19,7 +19,7 @@ use Rattle.network.specs.Network.{rows}
 use Rattle.network.specs.inner.Sound.{ContentLengths}
 use Rattle.layout.specs.Bytes.{u32At, doubleAt}
 use Rattle.image.specs.Reading.{spread, wholesFrom, doublesFrom}
-use Rattle.image.specs.inner.Sound.{Readable, Filled}
+use Rattle.image.specs.inner.Sound.{Readable, ContentFilled}
 
 fill-more : {A : Type 0} (l : List A) (k : ℕ) (g : ℕ → A) → set (write l 0 (field k g)) k (g k) ≡ write l 0 (field (suc k) g)
 fill-more l k g =
@@ -89,7 +89,7 @@ readable-list start stride group n k l R e = subst (λ t. Readable start stride 
 
 pub all-filled : (at : ℕ) (s : Shape) (l es : List ℕ) (rs ws ss ps : List Float) {es' : List ℕ} {rs' ws' ss' ps' : List Float} → ContentLengths s es rs ws ss ps →
     es' ≡ wholesFrom at 48 2 (length es) l → rs' ≡ doublesFrom (at + 8) 48 3 (length rs) l → ws' ≡ doublesFrom (at + 32) 48 1 (length ws) l →
-    ss' ≡ doublesFrom (at + 40) 48 1 (length ss) l → ps' ≡ doublesFrom (at + 48 * rows s) 24 3 (length ps) l → Filled at s l es' rs' ws' ss' ps'
+    ss' ≡ doublesFrom (at + 40) 48 1 (length ss) l → ps' ≡ doublesFrom (at + 48 * rows s) 24 3 (length ps) l → ContentFilled at s l es' rs' ws' ss' ps'
 all-filled at s l es rs ws ss ps L e r w c p = record {
   ends = rw (L .ends) at e;
   rays = rw (L .domain .rays) at r;

@@ -35,7 +35,7 @@ use Rattle.image.specs.declared.Written.the-variants.{Refused as NotWrit
 use Rattle.image.specs.Reading.{lengthAt, shapeAt, raysFrom, weightsFrom, scalesFrom, pointsFrom, contentFrom, contentOf}
 use Rattle.image.specs.Tests.{badLength, imageTests, contentFits, contentSections, rowTests, shorter, roomTests, countsTests, readTests, writeTests}
 use Rattle.image.specs.Calls.{countsIf, writtenIf, after, countsOf, Lists, lists, contentWith, readVerdict, Reads, HoldsDoubles, writeVerdict, Writes}
-use Rattle.image.specs.inner.Sound.{ImageSound, ContentReadable, Filled, ReadSound, WriteSound}
+use Rattle.image.specs.inner.Sound.{ImageSound, ContentReadable, ContentFilled, ReadSound, WriteSound}
 use Rattle.image.proofs.Heads.{four-pairs}
 use Rattle.image.proofs.Domain.{double-read}
 
@@ -160,11 +160,11 @@ module _ (l es : List ℕ) (rs ws ss ps : List Float) {x : Verdict} (e : x ≡ r
   read-ready h = read-sound l _ (sym e ∙ h)
 
   pub read-passed : (es' : List ℕ) (rs' ws' ss' ps' : List Float) {s : Shape} →
-      x ≡ Passed → s ≡ shapeAt 36 l → Filled 52 s l es' rs' ws' ss' ps' → AreBytes l → Reads l (lists es rs ws ss ps) (Of s) (lists es' rs' ws' ss' ps')
+      x ≡ Passed → s ≡ shapeAt 36 l → ContentFilled 52 s l es' rs' ws' ss' ps' → AreBytes l → Reads l (lists es rs ws ss ps) (Of s) (lists es' rs' ws' ss' ps')
   unfolding countsIf after contentFrom
   read-passed es' rs' ws' ss' ps' h k f b =
       let v : readVerdict l (lists es rs ws ss ps) ≡ Passed = sym e ∙ h in
-      let g : Filled 52 (shapeAt 36 l) l es' rs' ws' ss' ps' = rw k at f in
+      let g : ContentFilled 52 (shapeAt 36 l) l es' rs' ws' ss' ps' = rw k at f in
       record {
         answer = rw v (ap Of k);
         stored = record { ends = rw v (g .ends); rays = rw v (g .rays); weights = rw v (g .weights); scales = rw v (g .scales); positions = rw v (g .positions) };

@@ -11,7 +11,7 @@ ghost use lib.Ieee.Scale.{finite};
 ghost use Rattle.layout.specs.Bytes.{doubleAt};
 ghost use Rattle.network.specs.inner.Sound.{ContentLengths};
 ghost use Rattle.image.specs.Reading.{wholesFrom, doublesFrom};
-ghost use Rattle.image.specs.inner.Sound.{Readable, ContentReadable, Filled};
+ghost use Rattle.image.specs.inner.Sound.{Readable, ContentReadable, ContentFilled};
 
 // The finite double at p.
 fn value_at(bytes: &[u8], p: usize) -> f64
@@ -79,7 +79,7 @@ pub(crate) fn fill(
 )
     requires { ⌜ ContentReadable at s (now bytes) ⌝ }
     requires { ⌜ ContentLengths s (now ends) (now rays) (now weights) (now scales) (now points) ⌝ }
-    ensures { λ r. ⌜ Filled at s (now (bytes .entry))
+    ensures { λ r. ⌜ ContentFilled at s (now (bytes .entry))
         (now (ends .exit)) (now (rays .exit)) (now (weights .exit)) (now (scales .exit)) (now (points .exit)) ⌝ }
 {
     let behind = at + 48 * (s.bearings + s.directions);

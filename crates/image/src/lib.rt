@@ -27,7 +27,7 @@ ghost use Rattle.layout.specs.Image.{content};
 ghost use Rattle.image.specs.Reading.{shapeAt, contentFrom};
 ghost use Rattle.image.specs.Tests.{rowTests, countsTests};
 ghost use Rattle.image.specs.Calls.{countsOf, lists, readVerdict, Reads, Writes};
-ghost use Rattle.image.specs.inner.Sound.{ReadSound, Filled};
+ghost use Rattle.image.specs.inner.Sound.{ReadSound, ContentFilled};
 
 // The counts of an image, or its refusal.
 pub enum Counted {
@@ -134,7 +134,7 @@ fn store(
 ) -> Shape
     requires { ⌜ ReadSound (now bytes) (lists (now ends) (now rays) (now weights) (now scales) (now points)) ⌝ }
     ensures { λ r. ⌜ r ≡ shapeAt 36 (now (bytes .entry)) ⌝ }
-    ensures { λ r. ⌜ Filled 52 r (now (bytes .entry))
+    ensures { λ r. ⌜ ContentFilled 52 r (now (bytes .entry))
         (now (ends .exit)) (now (rays .exit)) (now (weights .exit)) (now (scales .exit)) (now (points .exit)) ⌝ }
 {
     let s = shape_at(bytes, 36);

@@ -28,7 +28,8 @@ use Rattle.iterative.specs.declared.Active.{Active}
 use Rattle.iterative.specs.declared.Round.{Round}
 use Rattle.iterative.specs.declared.Step.{Step}
 use Rattle.iterative.specs.declared.Step.the-variants.{Ended, Failed, Running}
-use Rattle.iterative.specs.inner.Solver.{FieldStepped, FieldsFit, Moved, Preconditioned, Ran, Rounded, SystemKept, continuedBy, problemIn, problemWith, redirectedBy, rightSums, runIn, stateIn}
+use Rattle.iterative.specs.inner.Solver.{FieldStepped, FieldsFit, MovedAlong, Preconditioned, Ran, Rounded, SystemKept}
+use Rattle.iterative.specs.inner.Solver.{continuedBy, problemIn, problemWith, redirectedBy, rightSums, runIn, stateIn}
 use Rattle.iterative.specs.inner.Solver.{steppedBy}
 
 module _ (s : Shape) (a : ℕ) (l : List Float) (R : FieldsFit s (length l)) where
@@ -92,7 +93,7 @@ module _ (s : Shape) (a : ℕ) (l : List Float) (R : FieldsFit s (length l)) whe
       alpha ≡ quotient (r .old) curvature → p ≡ positionsAt s → q ≡ searchAt s → p' ≡ residualAt s → q' ≡ appliedAt s →
       FieldStepped s a (add binary64) (r .active) alpha p q l l1 v → FieldStepped s a (sub binary64) (r .active) alpha p' q' l1 l2 sums →
       active ≡ staysActive bound (r .active) sums → bound ≡ boundOf (rightSums s a l) →
-      Moved s a r curvature l l2 (record { old = r .old; active = active; count = r .count + 1 })
+      MovedAlong s a r curvature l l2 (record { old = r .old; active = active; count = r .count + 1 })
   unfolding moved squareSum
   moved-done r curvature alpha bound sums v active p q p' q' l1 l2 e1 ep eq ep' eq' D D' ea eb =
       let x = steppedField n a (add binary64) (r .active) alpha (load vector l (positionsAt s) n) (load vector l (searchAt s) n) in
@@ -124,7 +125,7 @@ module _ (s : Shape) (a : ℕ) (l : List Float) (R : FieldsFit s (length l)) whe
     pub step-failed : (i : ℕ) → place ≡ At i → Ran s (steppedBy s a l r) l l (Failed 11 i)
     step-failed i h = record { run = λ op. rw (← curvature-is, sym ec ∙ h); kept = kept-same s l }
 
-    pub step-done : (l1 l2 : List Float) (t : Round) (x : Step) → place ≡ Nowhere → Moved s a r curvature l l1 t → Ran s (continuedBy s a l1 t) l1 l2 x → Ran s (steppedBy s a l r) l l2 x
+    pub step-done : (l1 l2 : List Float) (t : Round) (x : Step) → place ≡ Nowhere → MovedAlong s a r curvature l l1 t → Ran s (continuedBy s a l1 t) l1 l2 x → Ran s (steppedBy s a l r) l l2 x
     step-done l1 l2 t x h M C =
         let w : component (badCurvature (r .active) (r .old) curvature) ≡ Nowhere = sym ec ∙ h in
         record {

@@ -28,7 +28,7 @@ ghost use Rattle.network.specs.inner.Sound.{LinksSound};
 ghost use Rattle.system.specs.Work.{matrixAt};
 ghost use Rattle.iterative.specs.Problem.{mostRounds};
 ghost use Rattle.iterative.specs.Method.{boundOf, running};
-ghost use Rattle.iterative.specs.inner.Solver.{FieldsFit, Iterated, Moved, Ran, Rounded, begun, continuedBy, problemIn, redirectedBy};
+ghost use Rattle.iterative.specs.inner.Solver.{FieldsFit, Iterated, MovedAlong, Ran, Rounded, begun, continuedBy, problemIn, redirectedBy};
 ghost use Rattle.iterative.specs.inner.Solver.{rightSums, stateIn, steppedBy};
 
 // The new search vector (12).
@@ -79,7 +79,7 @@ fn move_along(
     requires { ⌜ FieldsFit s (length (now work)) ⌝ }
     requires { ⌜ bound ≡ boundOf (rightSums s anchor (now work)) ⌝ }
     requires { ⌜ r .count < 4000 ⌝ }
-    ensures { λ t. ⌜ Moved s anchor r curvature (now (work .entry)) (now (work .exit)) t ⌝ }
+    ensures { λ t. ⌜ MovedAlong s anchor r curvature (now (work .entry)) (now (work .exit)) t ⌝ }
 {
     let count = r.count + 1;
     let active = r.active;

@@ -41,7 +41,7 @@ use Rattle.placement.specs.declared.Report.{Report}
 use Rattle.placement.specs.Routes.{Submission, Placement, rejected, failing, placed, report, failingAt, submission, denseOr, byIterative, fallBack, routedBy, routed, buffersFit}
 use Rattle.placement.specs.Routes.{submissionTests, submissionVerdict, checked, placement}
 use Rattle.placement.specs.Solved.{answerOf, camerasAfter, pointsAfter, workAfter, Solved}
-use Rattle.placement.specs.inner.Routing.{Checked, Placed, Ran, RouteReady, Routed, denseIn, iterativeIn, outcome}
+use Rattle.placement.specs.inner.Routing.{Checked, OutputsFilled, Ran, RouteReady, Routed, denseIn, iterativeIn, outcome}
 use Rattle.placement.proofs.Routing.{route-cases, surplus-more, work-room}
 
 -- ---- the checks
@@ -68,12 +68,12 @@ module _ (s : Shape) (ends : List ℕ) (rays weights scales points : List Float)
   submission-checked route limit work cameras out x v y e p f q h = passes-in (countTests s) _ e p (passes-in (lengthTests _) _ f q h)
 
 -- what 'nothing was refused' says
-pub record Sound (i : Submission) : Type 0 where
+pub record SubmissionSound (i : Submission) : Type 0 where
   pub checked : Checked (i .net) (i .route) (i .limit) (i .work)
   pub cameras : i .cameras ≡ 3 * i .net .shape .cameras
   pub points : i .points ≡ 3 * i .net .shape .points
 
-pub submission-sound : (i : Submission) (v : Verdict) → v ≡ submissionVerdict i → v ≡ Passed → Sound i
+pub submission-sound : (i : Submission) (v : Verdict) → v ≡ submissionVerdict i → v ≡ Passed → SubmissionSound i
 unfolding submissionTests buffersFit
 submission-sound i v h p =
     let net = i .net in
@@ -149,7 +149,7 @@ module _ (s : Shape) (ends : List ℕ) (rays weights scales points : List Float)
 
   pub placed-accepted : (p : Report) (cameras' placed' : List Float) → r ≡ Accepted p → cameras' ≡ flat vector (positionsIn s l1) →
       placed' ≡ flat vector (pointsBy (network s ends rays weights scales points offsets listed) (weightsIn s l1) (positionsIn s l1)) →
-      Placed (network s ends rays weights scales points offsets listed) route limit (Accepted p) l l1 cameras cameras' placed0 placed'
+      OutputsFilled (network s ends rays weights scales points offsets listed) route limit (Accepted p) l l1 cameras cameras' placed0 placed'
   placed-accepted p cameras' placed' e c q =
       let net = network s ends rays weights scales points offsets listed in
       let x : placed p (positionsIn s l1) ≡ routed net route limit = ap (λ (y : Answer). outcome y (positionsIn s l1)) (sym e) ∙ R .answer in
@@ -162,7 +162,7 @@ module _ (s : Shape) (ends : List ℕ) (rays weights scales points : List Float)
         size = R .size;
       }
 
-  pub placed-refused : (q : Refusal) → r ≡ Refused q → Placed (network s ends rays weights scales points offsets listed) route limit r l l1 cameras cameras placed0 placed0
+  pub placed-refused : (q : Refusal) → r ≡ Refused q → OutputsFilled (network s ends rays weights scales points offsets listed) route limit r l l1 cameras cameras placed0 placed0
   placed-refused q e =
       let net = network s ends rays weights scales points offsets listed in
       let x : failing q ≡ routed net route limit = ap (λ (y : Answer). outcome y (positionsIn s l1)) (sym e) ∙ R .answer in
@@ -259,7 +259,7 @@ module _ (net : Network) (N : NetworkSound net) where
 -- ---- the solve
 
 pub clear-room : (net : Network) (route limit t : ℕ) (r : Answer) (work mid cameras cameras' points points' : List Float) → Checked net route limit (length work) →
-    Placed net route limit r work mid cameras cameras' points points' → t ≡ workLength (net .shape) route limit → t ≤ length mid
+    OutputsFilled net route limit r work mid cameras cameras' points points' → t ≡ workLength (net .shape) route limit → t ≤ length mid
 clear-room net route limit t r work mid cameras cameras' points points' C P e = rw (e, P .size) (C .room)
 
 module _ (i : Submission) (v : Verdict) (work cameras points : List Float) (e : v ≡ submissionVerdict i) where
@@ -278,7 +278,7 @@ module _ (i : Submission) (v : Verdict) (work cameras points : List Float) (e : 
         meaning = λ a k f. let z : _≡_ {A = ℕ} 0 2 = ap routeOf f in absurd (omega arith);
       }
 
-  pub solve-placed : (r : Answer) (t : ℕ) (mid work' cameras' points' : List Float) → v ≡ Passed → Placed (i .net) (i .route) (i .limit) r work mid cameras cameras' points points' →
+  pub solve-placed : (r : Answer) (t : ℕ) (mid work' cameras' points' : List Float) → v ≡ Passed → OutputsFilled (i .net) (i .route) (i .limit) r work mid cameras cameras' points points' →
       t ≡ workLength (i .net .shape) (i .route) (i .limit) → work' ≡ replicate t null ++ drop t mid → Solved i r work work' cameras cameras' points points'
   unfolding placement problemBy
   solve-placed r t mid work' cameras' points' h P w z =

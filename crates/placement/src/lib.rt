@@ -23,7 +23,7 @@ ghost use Rattle.system.specs.Work.{matrixAt};
 ghost use Rattle.system.specs.inner.Formed.{RowsThere, positionsIn, weightsIn};
 ghost use Rattle.recover.specs.Recover.{pointsBy};
 ghost use Rattle.placement.specs.Routes.{submission};
-ghost use Rattle.placement.specs.inner.Routing.{Checked, Placed, Ran};
+ghost use Rattle.placement.specs.inner.Routing.{Checked, OutputsFilled, Ran};
 ghost use Rattle.placement.specs.Solved.{Solved};
 
 // An accepted solve: the anchor, the answering route (1, 2, or 3 for dense after iterative), and the rounds (0 when dense answered).
@@ -120,7 +120,8 @@ fn place(
     requires { ⌜ Checked (network s (now ends) (now rays) (now weights) (now scales) (now points) (now offsets) (now listed))
         route limit (length (now work)) ⌝ }
     requires { ⌜ (length (now cameras) ≡ 3 * s .cameras) × (length (now placed) ≡ 3 * s .points) ⌝ }
-    ensures { λ r. ⌜ Placed (network s (now (ends .entry)) (now (rays .entry)) (now (weights .entry)) (now (scales .entry)) (now (points .entry))
+    ensures { λ r. ⌜ OutputsFilled
+        (network s (now (ends .entry)) (now (rays .entry)) (now (weights .entry)) (now (scales .entry)) (now (points .entry))
         (now (offsets .entry)) (now (listed .entry)))
         route limit r (now (work .entry)) (now (work .exit)) (now (cameras .entry)) (now (cameras .exit))
         (now (placed .entry)) (now (placed .exit)) ⌝ }

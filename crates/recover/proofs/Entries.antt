@@ -20,8 +20,8 @@ use Rattle.network.proofs.Verdicts.{stage-passed, passes-in}
 use Rattle.network.proofs.Sound.{counts-sound, lengths-fit, vectors-fit, network-fits, network-sound}
 use Rattle.recover.specs.Part.{marked}
 use Rattle.recover.specs.Recover.{dotsOf, scalesOf}
-use Rattle.recover.specs.Contracts.{Placed, placed, chosen, buffersFit, placedTests, placedVerdict, Filled, DotsFilled, ScalesFilled}
-use Rattle.recover.specs.inner.Reads.{Accepted, PositionsThere}
+use Rattle.recover.specs.Contracts.{PlacedNetwork, placed, chosen, buffersFit, placedTests, placedVerdict, Filled, DotsFilled, ScalesFilled}
+use Rattle.recover.specs.inner.Reads.{FillSound, PositionsThere}
 use Rattle.recover.proofs.Cameras.{length-marked}
 
 -- ---- what 3 shows
@@ -60,7 +60,7 @@ module _ (s : Shape) (ends : List ℕ) (rays weights scales points : List Float)
 
 -- ---- what a passed call may do, and what it leaves
 
-accepted : (i : Placed) (out : List Float) (v : Verdict) → v ≡ placedVerdict i → v ≡ Passed → length out ≡ i .room → Accepted (i .net) (chosen i) out
+accepted : (i : PlacedNetwork) (out : List Float) (v : Verdict) → v ≡ placedVerdict i → v ≡ Passed → length out ≡ i .room → FillSound (i .net) (chosen i) out
 unfolding placedTests
 accepted i out v e p o =
     let net = i .net in
@@ -75,17 +75,17 @@ accepted i out v e p o =
       room = o ∙ g .2;
     }
 
-pub left-refused : (i : Placed) (xs out : List Float) (v : Verdict) (r : Refusal) → v ≡ placedVerdict i → v ≡ Refused r → Filled i xs (Refused r) out out
+pub left-refused : (i : PlacedNetwork) (xs out : List Float) (v : Verdict) (r : Refusal) → v ≡ placedVerdict i → v ≡ Refused r → Filled i xs (Refused r) out out
 left-refused i xs out v r is e = record { answer = sym e ∙ is; output = rw (← is, e) }
 
-left-filled : (i : Placed) (xs out out' : List Float) (v : Verdict) → v ≡ placedVerdict i → v ≡ Passed → out' ≡ xs → Filled i xs Passed out out'
+left-filled : (i : PlacedNetwork) (xs out out' : List Float) (v : Verdict) → v ≡ placedVerdict i → v ≡ Passed → out' ≡ xs → Filled i xs Passed out out'
 left-filled i xs out out' v is e h = record { answer = sym e ∙ is; output = rw (← is, e) h }
 
 module _ (s : Shape) (ends : List ℕ) (rays weights scales points : List Float) (offsets listed : List ℕ) (current trial : List Float) (mark : Bool) (out l : List Float) (v : Verdict) where
-  abbrev lent : Placed
+  abbrev lent : PlacedNetwork
   lent = placed (network s ends rays weights scales points offsets listed) current trial mark (length out)
 
-  pub may-fill : v ≡ placedVerdict lent → v ≡ Passed → l ≡ marked current trial mark → Accepted (lent .net) l out
+  pub may-fill : v ≡ placedVerdict lent → v ≡ Passed → l ≡ marked current trial mark → FillSound (lent .net) l out
   may-fill e p q = rw q (accepted lent out v e p refl)
 
   pub may-read-ends : v ≡ placedVerdict lent → v ≡ Passed → EndsSound s ends

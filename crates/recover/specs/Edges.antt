@@ -11,14 +11,14 @@ use Rattle.system.specs.Edges.{directed, half, two}
 use Rattle.recover.specs.declared.Scale.{Scale}
 use Rattle.recover.specs.declared.Scale.the-variants.{Kept, Renewed}
 use Rattle.recover.specs.Recover.{least, scaleAnswer, scaleNumber}
-use Rattle.recover.specs.Contracts.{Placed, placed, camerasOf, ScalesFilled}
+use Rattle.recover.specs.Contracts.{PlacedNetwork, placed, camerasOf, ScalesFilled}
 
 -- the double with these bits
 abbrev bits : ℕ → Float
 bits b = ofBits binary64 b
 
 -- 'Scales, cameras (0,0,0) and target, direction (1,0,0), weight 1': target (x,0,0), old scale 1. The trial cameras, all zero, are not marked.
-abbrev pub baselineCase : Float → Placed
+abbrev pub baselineCase : Float → PlacedNetwork
 baselineCase x = placed (directed one one) (null ∷ null ∷ null ∷ x ∷ null ∷ null ∷ []) (null ∷ null ∷ null ∷ null ∷ null ∷ null ∷ []) false 1
 
 -- the direction's answer is a, and a call that is lent one number is refused nothing and leaves that answer's number there

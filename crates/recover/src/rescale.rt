@@ -14,7 +14,7 @@ ghost use Rattle.network.specs.Network.{network, links, rows, spanOf};
 ghost use Rattle.network.specs.inner.Sound.{EndsSound, ListedSound, LinksSound};
 ghost use Rattle.system.specs.inner.Formed.{RowsThere};
 ghost use Rattle.recover.specs.Recover.{directionKept, newScaleIn, newScale, scalesOf};
-ghost use Rattle.recover.specs.inner.Reads.{PositionsThere, Accepted};
+ghost use Rattle.recover.specs.inner.Reads.{PositionsThere, FillSound};
 ghost use Rattle.recover.specs.inner.Order.{listedRow, ownRow, storedAt, directionScale};
 
 // The scale of row r; `keeps` says whether its weight keeps it.
@@ -203,7 +203,7 @@ pub(crate) fn fill_scales(
     cameras: &[f64],
     out: &mut [f64],
 )
-    requires { ⌜ Accepted (network s (now ends) (now rays) (now weights) (now scales) (now points) (now offsets) (now listed))
+    requires { ⌜ FillSound (network s (now ends) (now rays) (now weights) (now scales) (now points) (now offsets) (now listed))
         (now cameras) (now out) ⌝ }
     ensures { λ x. ⌜ now (out .exit) ≡ scalesOf
         (network s (now (ends .entry)) (now (rays .entry)) (now (weights .entry)) (now (scales .entry)) (now (points .entry))

@@ -18,7 +18,7 @@ use borrow.Author.Tests.{ltb-true}
 use Rattle.libc.specs.Io.{Moved as Answers}
 use Rattle.stream.specs.declared.Moved.{Moved}
 use Rattle.stream.specs.declared.Moved.the-variants.{Count, Failed}
-use Rattle.stream.specs.Stream.{Kept, Filled}
+use Rattle.stream.specs.Stream.{Overwritten, ReadInto}
 use Rattle.stream.specs.inner.Steps.{movedBy, Within, PutAt, ReadAt}
 
 pub told-failed : (z : ℤ) → ltZ z (pos 0) ≡ true → Failed ≡ movedBy z
@@ -72,13 +72,13 @@ store-read (Count k) p chunk old new e h w v = record {
 }
 store-read Failed p chunk old new e h w v = e
 
-pub kept-none : (l : List ℕ) → Kept 0 0 l l
+pub kept-none : (l : List ℕ) → Overwritten 0 0 l l
 kept-none l = record { within = omega arith; size = refl; front = refl; rest = refl }
 
-pub kept-more : (d k : ℕ) (old mid new : List ℕ) (r : Moved) → Kept 0 d old mid → ReadAt r d mid new → r ≡ Count k → Kept 0 (d + k) old new
+pub kept-more : (d k : ℕ) (old mid new : List ℕ) (r : Moved) → Overwritten 0 d old mid → ReadAt r d mid new → r ≡ Count k → Overwritten 0 (d + k) old new
 unfolding ReadAt
 kept-more d k old mid new r a h e =
-    let b : Kept d k mid new = rw e at h in
+    let b : Overwritten d k mid new = rw e at h in
     let c : drop d mid ≡ drop d old = rw zero-add at (a .rest) in
     record {
       within = omega arith;
@@ -88,20 +88,20 @@ kept-more d k old mid new r a h e =
     }
 
 -- the reads so far, where one more failed or met the end, or there is no room for more
-module _ (d : ℕ) (old mid : List ℕ) (a : Kept 0 d old mid) where
-  pub filled-failed : (new : List ℕ) (r : Moved) → ReadAt r d mid new → r ≡ Failed → Filled r old new
-  unfolding ReadAt Filled
+module _ (d : ℕ) (old mid : List ℕ) (a : Overwritten 0 d old mid) where
+  pub filled-failed : (new : List ℕ) (r : Moved) → ReadAt r d mid new → r ≡ Failed → ReadInto r old new
+  unfolding ReadAt ReadInto
   filled-failed new r h e = let q : new ≡ mid = rw e at h in rw (e, q) (a .size)
 
-  pub filled-end : (k : ℕ) (new : List ℕ) (r : Moved) → ReadAt r d mid new → r ≡ Count k → k ≡ 0 → Filled (Count d) old new
-  unfolding Filled
+  pub filled-end : (k : ℕ) (new : List ℕ) (r : Moved) → ReadAt r d mid new → r ≡ Count k → k ≡ 0 → ReadInto (Count d) old new
+  unfolding ReadInto
   filled-end k new r h e z = let q : d + k ≡ d = omega arith in rw q at (kept-more d k old mid new r a h e)
 
-  pub filled-whole : Filled (Count d) old mid
-  unfolding Filled
+  pub filled-whole : ReadInto (Count d) old mid
+  unfolding ReadInto
   filled-whole = a
 
 -- the bytes that were read are a part of the buffer, so a caller can take them as one
-pub filled-within : (r : Moved) (n : ℕ) (old new : List ℕ) → Filled r old new → r ≡ Count n → n ≤ length new
-unfolding Filled
-filled-within r n old new h e = let k : Kept 0 n old new = rw e at h in omega arith
+pub filled-within : (r : Moved) (n : ℕ) (old new : List ℕ) → ReadInto r old new → r ≡ Count n → n ≤ length new
+unfolding ReadInto
+filled-within r n old new h e = let k : Overwritten 0 n old new = rw e at h in omega arith

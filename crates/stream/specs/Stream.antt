@@ -9,13 +9,13 @@ use Rattle.stream.specs.declared.Moved.{Moved}
 use Rattle.stream.specs.declared.Moved.the-variants.{Count, Failed}
 
 -- of a buffer that held `old`, all but k bytes from place p on is as it was
-pub record Kept (p k : ℕ) (old new : List ℕ) : Type 0 where
+pub record Overwritten (p k : ℕ) (old new : List ℕ) : Type 0 where
   pub within : p + k ≤ length old
   pub size : length new ≡ length old
   pub front : take p new ≡ take p old
   pub rest : drop (p + k) new ≡ drop (p + k) old
 
 -- `read_all` put n bytes at the front; or it failed, and of the bytes nothing is promised
-unfoldable pub Filled : Moved → (old new : List ℕ) → Type 0
-Filled (Count n) old new = Kept 0 n old new
-Filled Failed old new = length new ≡ length old
+unfoldable pub ReadInto : Moved → (old new : List ℕ) → Type 0
+ReadInto (Count n) old new = Overwritten 0 n old new
+ReadInto Failed old new = length new ≡ length old

@@ -6,7 +6,7 @@ ghost use mathlib.Core.Path.{_≡_};
 ghost use Prim.Native.Nat.{_+_, _-_, _≤_, min};
 ghost use lib.ListN.{length};
 ghost use lib.Seq.{paste};
-ghost use Rattle.stream.specs.Stream.{Filled};
+ghost use Rattle.stream.specs.Stream.{ReadInto};
 ghost use Rattle.stream.specs.inner.Steps.{movedBy, Within, PutAt, ReadAt};
 
 // What a call moved: so many bytes, or that it failed.
@@ -84,7 +84,7 @@ fn read_at(fd: i32, buf: &mut [u8], at: usize) -> Moved
 // Reads until the input ends or buf is full, and counts the bytes, which stand at the front of buf. Those after them are as they were.
 // Where a read fails, bytes that came before it may stand at the front.
 pub fn read_all(fd: i32, buf: &mut [u8]) -> Moved
-    ensures { λ r. ⌜ Filled r (now (buf .entry)) (now (buf .exit)) ⌝ }
+    ensures { λ r. ⌜ ReadInto r (now (buf .entry)) (now (buf .exit)) ⌝ }
 {
     let mut done = 0usize;
     while done < buf.len() {

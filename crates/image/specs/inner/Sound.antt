@@ -43,7 +43,7 @@ pub record ContentReadable (p : ℕ) (s : Shape) (l : List ℕ) : Type 0 where
   pub positions : Readable (p + 48 * rows s) 24 3 (3 * s .points) l
 
 -- the five lists that the reader fills
-pub record Filled (p : ℕ) (s : Shape) (l : List ℕ) (es : List ℕ) (rs ws ss ps : List Float) : Type 0 where
+pub record ContentFilled (p : ℕ) (s : Shape) (l : List ℕ) (es : List ℕ) (rs ws ss ps : List Float) : Type 0 where
   pub ends : es ≡ endsFrom p (rows s) l
   pub rays : rs ≡ raysFrom p (rows s) l
   pub weights : ws ≡ weightsFrom p (rows s) l

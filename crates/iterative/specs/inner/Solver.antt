@@ -157,7 +157,7 @@ abbrev pub steppedBy : Shape → ℕ → List Float → Round → (List Vec3 →
 steppedBy s a l r op = step (problemWith s a l op) (stateIn s l r) (load vector l (appliedAt s) (s .cameras))
 
 -- the step along the search vector
-pub record Moved (s : Shape) (a : ℕ) (r : Round) (curvature : Vec3) (l l' : List Float) (t : Round) : Type 0 where
+pub record MovedAlong (s : Shape) (a : ℕ) (r : Round) (curvature : Vec3) (l l' : List Float) (t : Round) : Type 0 where
   pub state : (op : List Vec3 → List Vec3) → stateIn s l' t ≡ moved (problemWith s a l op) (stateIn s l r)
       (load vector l (appliedAt s) (s .cameras)) curvature
   pub kept : SystemKept s l l'

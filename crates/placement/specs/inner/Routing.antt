@@ -72,7 +72,7 @@ pub record Ran (net : Network) (route limit : ℕ) (l l' : List Float) (r : Answ
   pub size : length l' ≡ length l
 
 -- and the outputs are filled, where it is accepted
-pub record Placed (net : Network) (route limit : ℕ) (r : Answer) (work work' cameras cameras' points points' : List Float) : Type 0 where
+pub record OutputsFilled (net : Network) (route limit : ℕ) (r : Answer) (work work' cameras cameras' points points' : List Float) : Type 0 where
   pub answer : r ≡ answerOf (routed net route limit)
   pub camerasOut : cameras' ≡ camerasAfter (routed net route limit) cameras
   pub pointsOut : points' ≡ pointsAfter net (routed net route limit) points

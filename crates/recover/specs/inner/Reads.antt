@@ -18,7 +18,7 @@ pub record PositionsThere (s : Shape) (ps cs : List Float) : Type 0 where
   pub cameras : length cs ≡ 3 * s .cameras
 
 -- nothing was refused: the network is sound, n cameras are placed, and the output has a number for each row
-pub record Accepted (net : Network) (placed out : List Float) : Type 0 where
+pub record FillSound (net : Network) (placed out : List Float) : Type 0 where
   pub sound : NetworkSound net
   pub cameras : length placed ≡ 3 * net .shape .cameras
   pub room : length out ≡ rows (net .shape)

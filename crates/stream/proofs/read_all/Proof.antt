@@ -1,14 +1,14 @@
 use Prim.Native.Nat.{_-_}
 use native.Mathlib.Omega.{arith}
 use lib.ListN.{length}
-use Rattle.stream.specs.Stream.{Kept}
+use Rattle.stream.specs.Stream.{Overwritten}
 use Rattle.stream.proofs.Answers.{kept-none, kept-more, filled-failed, filled-end, filled-whole}
 use borrow.Author.Needs.{needs}
 use Rattle.stream.proofs.read_all.Statement.{statement}
 use Rattle.stream.proofs.read_all.Tie as tie
 
 abbrev Inv-loop : tie.InvT-loop
-Inv-loop fd buf₀ done₀ buf done = Kept 0 done buf₀ buf
+Inv-loop fd buf₀ done₀ buf done = Overwritten 0 done buf₀ buf
 
 abbrev μ-loop : tie.MeasureT-loop
 μ-loop fd buf₀ done₀ buf done = length buf₀ - done

@@ -6,7 +6,7 @@ use lib.Seq.{paste}
 use lib.IntN.{ℤ, pos, negsuc}
 use Rattle.stream.specs.declared.Moved.{Moved}
 use Rattle.stream.specs.declared.Moved.the-variants.{Count, Failed}
-use Rattle.stream.specs.Stream.{Kept}
+use Rattle.stream.specs.Stream.{Overwritten}
 
 -- what the C library answered: a number below 0 is a failure, and any other a count
 unfoldable pub movedBy : ℤ → Moved
@@ -25,5 +25,5 @@ PutAt Failed p chunk old new = new ≡ old
 
 -- one read into a buffer, at place p: k bytes, or a failure that changed nothing
 unfoldable pub ReadAt : Moved → ℕ → (old new : List ℕ) → Type 0
-ReadAt (Count k) p old new = Kept p k old new
+ReadAt (Count k) p old new = Overwritten p k old new
 ReadAt Failed p old new = new ≡ old
