@@ -1,5 +1,5 @@
 -- What each entry point does, from what the functions that it calls ensure: s is the shape that it makes of its counts, s' that of its contract,
--- x the first number of its report. Assumes nothing.
+-- x the one number of its report. Assumes nothing.
 use Prim.Native.Nat.{ℕ}
 use mathlib.Core.Path.{_≡_}
 use mathlib.Core.List.{List, [], _∷_}
@@ -20,22 +20,19 @@ use Rattle.placement.specs.declared.Answer.{Answer}
 use Rattle.placement.specs.Routes.{submission}
 use Rattle.placement.specs.Solved.{Solved}
 use Rattle.layout.specs.Image.{content}
-use Rattle.image.specs.declared.Counted.{Counted}
 use Rattle.image.specs.declared.Written.{Written}
-use Rattle.image.specs.Calls.{Lists, countsOf, Reads, Writes}
-use Rattle.lists.specs.PointLists.{PointListsCall}
+use Rattle.image.specs.Calls.{Writes}
 use Rattle.exports.specs.Codes.{one, connectivityCode, connectivityReport, listingCode, listingReport, lengthCode, lengthReport}
 use Rattle.exports.specs.Codes.{verdictCode, verdictReport, writtenCode, writtenReport, answerCode, answerReport}
-use Rattle.exports.specs.Codes.{countedCode, countedReport, Unreported}
-use Rattle.exports.specs.Calls.{Answered, Reporting, countVerdict, ConnectedCall, PartsCall, LengthCall, DotsCall, ScalesCall, SolveCall}
-use Rattle.exports.specs.Calls.{CountsCall, ReadCall, WriteCall, ListCall}
+use Rattle.exports.specs.Codes.{Unreported}
+use Rattle.exports.specs.Calls.{Reporting, countVerdict, ConnectedCall, PartsCall, LengthCall, DotsCall, ScalesCall, SolveCall, WriteCall}
 
 -- ---- any call
 
 module _ {A : Type 0} {k code : ℕ} {earlier : Verdict} {Kept : Type 0} {Call : A → Type 0} {codeOf : A → ℕ} {reportOf : A → List ℕ → List ℕ}
     {report report' : List ℕ} where
   -- the report has its length
-  done : (answer : A) → length report ≡ k → Call answer → report' ≡ reportOf answer report → code ≡ codeOf answer →
+  pub done : (answer : A) → length report ≡ k → Call answer → report' ≡ reportOf answer report → code ≡ codeOf answer →
       Reporting k earlier Kept Call codeOf reportOf code report report'
   done answer f call q c = record {
     whole = λ g. record { answer = answer; call = call; coded = c; reported = q };
@@ -54,19 +51,25 @@ pub counts-undone : {A : Type 0} {k code : ℕ} {Kept : Type 0} {Call : A → Ty
     Unreported v code report report' → Kept → Reporting k (countVerdict s') Kept Call codeOf reportOf code report report'
 counts-undone e f h u kept = undone f (rw e at h) u kept
 
+-- the report has its one number x
+pub one-done : {A : Type 0} {code x : ℕ} {earlier : Verdict} {Kept : Type 0} {Call : A → Type 0} {codeOf numberOf : A → ℕ}
+    {report report' : List ℕ} (answer : A) → length report ≡ 1 → Call answer → x ≡ numberOf answer → report' ≡ x ∷ [] →
+    code ≡ codeOf answer → Reporting 1 earlier Kept Call codeOf (one numberOf) code report report'
+one-done answer f call p q c = done answer f call (rw p at q) c
+
 -- ---- the graph
 
 pub connected-done : {code x : ℕ} {s s' : Shape} {ends nodes nodes' report report' : List ℕ} {weights : List Float} {answer : Connectivity} →
     s ≡ s' → length report ≡ 1 → ConnectivityCall (graph s ends weights) answer nodes nodes' →
     x ≡ connectivityReport answer → report' ≡ x ∷ [] → code ≡ connectivityCode answer →
     ConnectedCall (graph s' ends weights) code nodes nodes' report report'
-connected-done h f call p q c = done _ f (rw h at call) (rw p at q) c
+connected-done h f call p q c = one-done _ f (rw h at call) p q c
 
 pub parts-done : {code x : ℕ} {s s' : Shape} {ends nodes nodes' labels labels' report report' : List ℕ} {weights : List Float}
     {answer : Listing} → s ≡ s' → length report ≡ 1 → ListingCall (graph s ends weights) answer nodes nodes' labels labels' →
     x ≡ listingReport answer → report' ≡ x ∷ [] → code ≡ listingCode answer →
     PartsCall (graph s' ends weights) code nodes nodes' labels labels' report report'
-parts-done h f call p q c = done _ f (rw h at call) (rw p at q) c
+parts-done h f call p q c = one-done _ f (rw h at call) p q c
 
 -- ---- the length of the work buffer
 
@@ -74,7 +77,7 @@ pub length-done : (route limit : ℕ) {code x : ℕ} {s s' : Shape} {report repo
     s ≡ s' → length report ≡ 1 → answer ≡ lengthOf s route limit →
     x ≡ lengthReport answer → report' ≡ x ∷ [] → code ≡ lengthCode answer →
     LengthCall s' route limit code report report'
-length-done route limit h f call p q c = done _ f (rw h at call) (rw p at q) c
+length-done route limit h f call p q c = one-done _ f (rw h at call) p q c
 
 -- ---- dots and scales
 
@@ -83,14 +86,14 @@ pub dots-done : {code x room : ℕ} {s s' : Shape} {ends offsets listed report r
     DotsFilled (placed (network s ends rays weights scales positions offsets listed) current trial mark room) answer out out' →
     x ≡ verdictReport answer → report' ≡ x ∷ [] → code ≡ verdictCode answer →
     DotsCall (placed (network s' ends rays weights scales positions offsets listed) current trial mark room) code out out' report report'
-dots-done h f call p q c = done _ f (rw h at call) (rw p at q) c
+dots-done h f call p q c = one-done _ f (rw h at call) p q c
 
 pub scales-done : {code x room : ℕ} {s s' : Shape} {ends offsets listed report report' : List ℕ}
     {rays weights scales positions current trial out out' : List Float} {mark : Bool} {answer : Verdict} → s ≡ s' → length report ≡ 1 →
     ScalesFilled (placed (network s ends rays weights scales positions offsets listed) current trial mark room) answer out out' →
     x ≡ verdictReport answer → report' ≡ x ∷ [] → code ≡ verdictCode answer →
     ScalesCall (placed (network s' ends rays weights scales positions offsets listed) current trial mark room) code out out' report report'
-scales-done h f call p q c = done _ f (rw h at call) (rw p at q) c
+scales-done h f call p q c = one-done _ f (rw h at call) p q c
 
 -- ---- the solve
 
@@ -104,26 +107,10 @@ pub solve-done : {route limit code t u v : ℕ} {s s' : Shape} {ends offsets lis
     work work' cameras cameras' points points' report report'
 solve-done h f call q c = done _ f (rw h at call) q c
 
--- ---- images
-
-pub counts-done : (l : List ℕ) {report report' : List ℕ} {code : ℕ} {answer : Counted} → length report ≡ 4 → answer ≡ countsOf l →
-    report' ≡ countedReport answer report → code ≡ countedCode answer → CountsCall l code report report'
-counts-done l f call q c = done _ f call q c
-
-pub read-done : {l report report' : List ℕ} {lent left : Lists} {code : ℕ} {answer : Counted} → length report ≡ 4 → Reads l lent answer left →
-    report' ≡ countedReport answer report → code ≡ countedCode answer → ReadCall l lent left code report report'
-read-done f call q c = done _ f call q c
+-- ---- the writer
 
 pub write-done : {code x : ℕ} {s s' : Shape} {ends out out' report report' : List ℕ} {rays weights scales positions : List Float}
     {answer : Written} → s ≡ s' → length report ≡ 1 → Writes (content s ends rays weights scales positions) out answer out' →
     x ≡ writtenReport answer → report' ≡ x ∷ [] → code ≡ writtenCode answer →
     WriteCall (content s' ends rays weights scales positions) out out' code report report'
-write-done h f call p q c = done _ f (rw h at call) (rw p at q) c
-
--- ---- point lists
-
-pub list-done : {m b code x : ℕ} {ends offsets offsets' listed listed' report report' : List ℕ} {answer : Verdict} → length report ≡ 1 →
-    PointListsCall m b ends offsets listed answer offsets' listed' →
-    x ≡ verdictReport answer → report' ≡ x ∷ [] → code ≡ verdictCode answer →
-    ListCall m b ends offsets offsets' listed listed' code report report'
-list-done f call p q c = done _ f call (rw p at q) c
+write-done h f call p q c = one-done _ f (rw h at call) p q c

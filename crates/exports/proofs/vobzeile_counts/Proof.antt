@@ -1,4 +1,4 @@
-use Rattle.exports.proofs.Calls.{undone, counts-done}
+use Rattle.exports.proofs.Calls.{undone, done}
 use borrow.Author.Needs.{needs}
 use Rattle.exports.proofs.vobzeile_counts.Statement.{statement}
 use Rattle.exports.proofs.vobzeile_counts.Tie as tie
@@ -15,4 +15,4 @@ vobzeile-counts-spec =
     (λ c κs. search needs)
     (λ c κs. search needs)
     (λ c. search needs)
-    (λ c. search counts-done))
+    (λ c. search done))

@@ -1,4 +1,4 @@
-use Rattle.exports.proofs.Calls.{undone, list-done}
+use Rattle.exports.proofs.Calls.{undone, one-done}
 use borrow.Author.Needs.{needs}
 use Rattle.exports.proofs.vobzeile_list_points.Statement.{statement}
 use Rattle.exports.proofs.vobzeile_list_points.Tie as tie
@@ -17,4 +17,4 @@ vobzeile-list-points-spec =
     (λ c. search needs)
     (λ c. search needs)
     (λ c. search needs)
-    (λ c. search list-done))
+    (λ c. search one-done))

@@ -1,4 +1,4 @@
-use Rattle.exports.proofs.Calls.{undone, read-done}
+use Rattle.exports.proofs.Calls.{undone, done}
 use borrow.Author.Needs.{needs}
 use Rattle.exports.proofs.vobzeile_read.Statement.{statement}
 use Rattle.exports.proofs.vobzeile_read.Tie as tie
@@ -20,4 +20,4 @@ vobzeile-read-spec =
     (λ c. search needs)
     (λ c. search needs)
     (λ c. search needs)
-    (λ c. search read-done))
+    (λ c. search done))
