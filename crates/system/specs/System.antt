@@ -18,14 +18,15 @@ use Rattle.network.specs.Network.{Network, rows, firstEnd, secondEnd, isBearing
 use Rattle.network.specs.Lists.{none}
 use Rattle.system.specs.declared.CameraTerm.{CameraTerm}
 
--- 1e-12; 1e-6, added to each diagonal (`RIDGE`); 1 and -1
+-- 1e-12
 abbrev pub tiny : Float
 tiny = ofBits binary64 0x3d719799812dea11
 
--- 1e-6, added to each diagonal
+-- 1e-6, added to each diagonal (the Rust's `RIDGE`)
 abbrev pub ridge : Float
 ridge = ofBits binary64 0x3eb0c6f7a0b5ed8d
 
+-- 1 and -1
 abbrev pub one : Float
 one = ofBits binary64 0x3ff0000000000000
 
