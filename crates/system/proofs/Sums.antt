@@ -20,6 +20,7 @@ use Rattle.network.specs.declared.Span.{Span}
 use Rattle.network.specs.Network.{spanOf, rowAt}
 use Rattle.system.specs.System.{tiny, effectiveIn, pullIn, weightSum, pullStep, pullSum, meanOf, sumsFrom, Sums}
 use Rattle.system.specs.Work.{weightsAt, meansAt}
+use Rattle.system.specs.declared.points.ListSums.{ListSums}
 use Rattle.system.specs.declared.points.PointSums.{PointSums}
 use Rattle.system.specs.inner.Formed.{pointStored, summed}
 
@@ -98,11 +99,10 @@ module _ (s : Shape) (rays weights scales : List Float) (offsets listed : List �
   abbrev S : Sums
   S = sumsFrom rays weights scales offsets listed
 
-  pub point-done : (p : ℕ) (k : Span) (w : Float) (v u : Vec3) →
-      k ≡ spanOf offsets p → w ≡ weightSum (effectiveIn weights scales) listed k → v ≡ pullSum (pullIn rays weights scales) listed k → u ≡ meanOf w v →
-      record { weight = w; mean = u } ≡ ofPoint S p
+  pub point-done : (p : ℕ) (k : Span) (t : ListSums) (u : Vec3) → k ≡ spanOf offsets p → t .weight ≡ weightSum (effectiveIn weights scales) listed k →
+      t .pull ≡ pullSum (pullIn rays weights scales) listed k → u ≡ meanOf (t .weight) (t .pull) → record { weight = t .weight; mean = u } ≡ ofPoint S p
   unfolding sumsFrom
-  point-done p k w v u ek ew ev eu = rw (eu, ew, ev, ek)
+  point-done p k t u ek ew ev eu = rw (eu, ew, ev, ek)
 
   pub points-none : l ≡ summed s S l 0
   unfolding summed

@@ -57,30 +57,42 @@ pub fn point_weight(s: Shape, weights: &[f64], scales: &[f64], listed: &[usize],
     sum
 }
 
-// The sum of the pulls over them.
-fn pull_sum(
+// The sums over the rows that a point lists: effective weights, and pulls.
+struct ListSums {
+    weight: f64,
+    pull: Vec3,
+}
+
+// Both sums over the rows at the places k of the lists, in one pass.
+fn list_sums(
     s: Shape,
     rays: &[f64],
     weights: &[f64],
     scales: &[f64],
     listed: &[usize],
     k: Span,
-) -> Vec3
+) -> ListSums
     requires { ⌜ ListedSound (s .bearings) (now listed) ⌝ }
     requires { ⌜ RowsThere s (now rays) (now weights) (now scales) ⌝ }
     requires { ⌜ k .first + k .size ≤ s .bearings ⌝ }
-    ensures { λ v. ⌜ v ≡ pullSum (pullIn (now (rays .entry)) (now (weights .entry)) (now (scales .entry))) (now (listed .entry)) k ⌝ }
+    ensures { λ r. ⌜ r .weight ≡ weightSum (effectiveIn (now (weights .entry)) (now (scales .entry))) (now (listed .entry)) k ⌝ }
+    ensures { λ r. ⌜ r .pull ≡ pullSum (pullIn (now (rays .entry)) (now (weights .entry)) (now (scales .entry))) (now (listed .entry)) k ⌝ }
 {
     let first = k.first;
     let size = k.size;
+    let mut weight = 0.0;
     let mut sum = zero();
     let mut i = 0usize;
     while i < size {
         let r = listed_at(s, listed, first + i);
+        weight += effective(weights, scales, r);
         sum = sum.add(pull(rays, weights, scales, r));
         i += 1;
     }
-    sum
+    ListSums {
+        weight: weight,
+        pull: sum,
+    }
 }
 
 // The mean offset of a point of weight w.
@@ -126,11 +138,10 @@ fn sum_point(
         r ≡ record { weight = S .weights .point p; mean = S .mean p }) ⌝ }
 {
     let k = span_of(s, offsets, p);
-    let w = point_weight(s, weights, scales, listed, k);
-    let v = pull_sum(s, rays, weights, scales, listed, k);
+    let t = list_sums(s, rays, weights, scales, listed, k);
     PointSums {
-        weight: w,
-        mean: mean_offset(w, v),
+        weight: t.weight,
+        mean: mean_offset(t.weight, t.pull),
     }
 }
 
