@@ -139,3 +139,11 @@ lt-trans (fin s m e) (fin t n d) (inf u) p q = q
 lt-trans (fin s m e) (fin t n d) (fin u k f) p q =
     first-third s t u m n k e d f
     ∙ below-trans s t u (on m e d f) (on n d e f) (on k f e d) (sym (compared s t m n e d f) ∙ p) (sym (second-third s t u m n k e d f) ∙ q)
+
+-- so not both ways
+pub lt-asymmetric : (x y : Float) → lt x y ≡ true → lt y x ≡ false
+lt-asymmetric x y h = go (lt y x) refl
+  where
+    go : (r : Bool) → lt y x ≡ r → r ≡ false
+    go true e = sym (lt-trans x y x h e) ∙ lt-irreflexive x
+    go false e = refl

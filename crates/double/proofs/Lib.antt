@@ -4,4 +4,5 @@ pub mod Finite
 pub mod Grid
 pub mod Order
 pub mod Less
+pub mod Below
 pub mod Sorts

@@ -87,7 +87,7 @@ disorder false a true b h = go (eqb a 0) refl
 disorder true a false b h = absurd (false≢true h)
 disorder true a true b h = let l : a < b = ltb-true a b h in rw (le-ltb b a (omega arith), ne-eqb a b (λ e. omega arith))
 
-not-le : (a b : Float) → lt b a ≡ true → le a b ≡ false
+pub not-le : (a b : Float) → lt b a ≡ true → le a b ≡ false
 unfolding le lt eq
 not-le nan b h = refl
 not-le (inf s) nan h = absurd (false≢true h)
@@ -101,6 +101,14 @@ not-le (inf false) (fin t n d) h = refl
 not-le (fin s m e) (inf true) h = refl
 not-le (fin s m e) (inf false) h = absurd (false≢true h)
 not-le (fin s m e) (fin t n d) h = disorder s (m * up e * down d) t (n * up d * down e) h
+
+-- what is at most y is not above it
+pub le-not-gt : (x y : Float) → le x y ≡ true → lt y x ≡ false
+le-not-gt x y h = go (lt y x) refl
+  where
+    go : (r : Bool) → lt y x ≡ r → r ≡ false
+    go true e = sym h ∙ not-le x y e
+    go false e = refl
 
 pub le-not-lt : (a b : Float) → isNan a ≡ false → isNan b ≡ false → le a b ≡ not (lt b a)
 le-not-lt a b p q = go (lt b a) refl
@@ -145,7 +153,7 @@ add-commutes f (fin s m e) (fin t n d) = rw (mul-comm (down e) (down d)) (sum-co
 
 -- ---- numbers not below zero: the sign is negative only at zero
 -- a size a with the sign s is such a number
-abbrev Sized : Bool → ℕ → Type 0
+abbrev pub Sized : Bool → ℕ → Type 0
 Sized s a = s ≡ true → a ≡ 0
 
 sized : (s : Bool) (m : ℕ) → (not s || eqb m 0) ≡ true → Sized s m
@@ -155,7 +163,7 @@ sized true m h e = eqb-true m 0 h
 times : {s : Bool} {a : ℕ} (u : ℕ) → Sized s a → Sized s (a * u)
 times u p e = rw (p e) (zero-mul u)
 
-scaled : (s : Bool) (m u v : ℕ) → (not s || eqb m 0) ≡ true → Sized s (m * u * v)
+pub scaled : (s : Bool) (m u v : ℕ) → (not s || eqb m 0) ≡ true → Sized s (m * u * v)
 scaled s m u v p = times v (times u (sized s m p))
 
 pub nonneg-of-unsigned : (x : Float) → unsigned x ≡ true → nonneg x ≡ true
@@ -204,11 +212,11 @@ by-size s a t b p q = go (leb a b) refl
     go false e = rw e (apart s t p (leb-false a b e))
 
 -- +∞, or a number of size m * 2 ^ e
-data View : Float → Type 0 where
+pub data View : Float → Type 0 where
   infinite : View (inf false)
   number : (s : Bool) (m : ℕ) (e : ℤ) → (not s || eqb m 0) ≡ true → View (fin s m e)
 
-view : (x : Float) → nonneg x ≡ true → View x
+pub view : (x : Float) → nonneg x ≡ true → View x
 view nan h = absurd (false≢true h)
 view (inf true) h = absurd (false≢true h)
 view (inf false) h = infinite
@@ -231,6 +239,10 @@ le-view (number s m e p) (number t n d q) = by-size s (m * up e * down d) t (n *
 
 le-is : (x y : Float) → nonneg x ≡ true → nonneg y ≡ true → le x y ≡ within x y
 le-is x y p q = le-view (view x p) (view y q)
+
+pub le-sizes : (s : Bool) (m : ℕ) (e : ℤ) (t : Bool) (n : ℕ) (d : ℤ) → (not s || eqb m 0) ≡ true → (not t || eqb n 0) ≡ true → le (fin s m e) (fin t n d) ≡ true →
+    m * up e * down d ≤ n * up d * down e
+le-sizes s m e t n d p q h = leb-true _ _ (sym (le-is (fin s m e) (fin t n d) p q) ∙ h)
 
 within-trans : (x y z : Float) → within x y ≡ true → within y z ≡ true → within x z ≡ true
 within-trans x y nan h k = k
@@ -260,7 +272,7 @@ value-zero (inf t) s c C v = absurd v
 value-zero (fin t zero e) s c C v = or-true (not t)
 value-zero (fin t (suc m) e) s c C v = absurd (omega (arith, mul-pos (mul-pos (zero-lt-suc m) (up-pos e)) C, v .1, zero-mul (down e)))
 
-nonneg-round : (f : Format) (s : Bool) (a c : ℕ) → 0 < c → Sized s a → nonneg (round f s a c) ≡ true
+pub nonneg-round : (f : Format) (s : Bool) (a c : ℕ) → 0 < c → Sized s a → nonneg (round f s a c) ≡ true
 nonneg-round f false a c C p = nonneg-of-unsigned (round f false a c) (unsigned-round f a c)
 nonneg-round f true a c C p = rw (p refl) (value-zero (round f true 0 c) true c C (round-exact f true 0 c 0 0 C (pow-pos _) (pow-pos _) (simp zero-mul)))
 
@@ -297,7 +309,7 @@ finite-sum : (f : Format) (s : Bool) (m : ℕ) (e : ℤ) (t : Bool) (n : ℕ) (d
 unfolding add
 finite-sum f s m e t n d p q = sum-is f s (m * up e * down d) t (n * up d * down e) (down e * down d) (scaled s m (up e) (down d) p) (scaled t n (up d) (down e) q)
 
-add-view : (f : Format) {x y : Float} → View x → View y → nonneg (add f x y) ≡ true
+pub add-view : (f : Format) {x y : Float} → View x → View y → nonneg (add f x y) ≡ true
 unfolding add
 add-view f infinite infinite = refl
 add-view f infinite (number t n d q) = refl
@@ -317,7 +329,7 @@ past-nan true t q h = absurd (true≢false h)
 past-nan false true q h = absurd (false≢true q)
 past-nan false false q h = refl
 
-mul-view : (f : Format) {x y : Float} → View x → View y → isNan (mul f x y) ≡ false → nonneg (mul f x y) ≡ true
+pub mul-view : (f : Format) {x y : Float} → View x → View y → isNan (mul f x y) ≡ false → nonneg (mul f x y) ≡ true
 unfolding mul
 mul-view f infinite infinite h = refl
 mul-view f infinite (number true n d q) h = past-nan (eqb n 0) true q h
@@ -327,9 +339,6 @@ mul-view f (number false m e p) infinite h = past-nan (eqb m 0) false p h
 mul-view f (number s m e p) (number t n d q) h =
     nonneg-round f (unlike s t) (m * up e * (n * up d)) (down e * down d) (mul-pos (down-pos e) (down-pos d))
     (sized-product s t (m * up e) (n * up d) (times (up e) (sized s m p)) (times (up d) (sized t n q)))
-
-pub nonneg-mul : (f : Format) (x y : Float) → nonneg x ≡ true → nonneg y ≡ true → isNan (mul f x y) ≡ false → nonneg (mul f x y) ≡ true
-nonneg-mul f x y p q h = mul-view f (view x p) (view y q) h
 
 pub nonneg-total : (f : Format) (g : ℕ → Float) (z : Float) (n : ℕ) → nonneg z ≡ true → ((k : ℕ) → k < n → nonneg (g k) ≡ true) → nonneg (total f g z n) ≡ true
 nonneg-total f g z n p q = total-keeps nonneg f g z n (nonneg-add f) p q

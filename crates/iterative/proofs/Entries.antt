@@ -18,15 +18,15 @@ use Rattle.field.specs.Count.{field, lowest, upto}
 use Rattle.field.specs.Vec.{at, minus, null, origin, over, plus}
 use Rattle.field.specs.declared.Place.the-variants.{At, Nowhere}
 use Rattle.field.specs.declared.Vec3.{Vec3}
-use Rattle.system.specs.System.{noTerm, ridge, termAt}
+use Rattle.system.specs.System.{noTerm, ridge, termAt, diagonalOf}
 use Rattle.system.specs.Work.{term, termPlace}
 use Rattle.system.specs.declared.CameraTerm.{CameraTerm}
 use Rattle.iterative.specs.Method.{badDiagonal, difference, differenceEntry, preconditioned, preconditionedEntry, searchEntry, searchField, searchStep, stepped, steppedEntry, steppedField}
 use Rattle.iterative.specs.Method.{zeros}
 use Rattle.iterative.specs.Problem.{dotStep, fieldDot, times}
-use Rattle.iterative.specs.Reduced.{diagonalOf, rightEntry, rightOf}
+use Rattle.iterative.specs.Reduced.{rightEntry, rightOf}
 use Rattle.iterative.specs.declared.Active.{Active}
-use Rattle.iterative.specs.inner.Solver.{TurnPreconditioned, TurnStepped, diagonalIn, diagonalNumber}
+use Rattle.iterative.specs.inner.Solver.{TurnPreconditioned, TurnStepped, diagonalIn}
 
 -- ---- the camera terms, in a buffer that no loop has changed and behind which a field is stored
 
@@ -45,16 +45,9 @@ module _ (l w : List Float) (p : ℕ) (g : ℕ → Vec3) (n i : ℕ) (e : w ≡ 
   unfolding diagonalOf
   diagonal-seen = rw term-seen
 
--- 9 or 10
-pub number-ten : (l : List Float) (i : ℕ) (d : Float) (b : Bool) → d ≡ diagonalIn l i → b ≡ finite d → b ≡ true → 10 ≡ diagonalNumber (diagonalIn l i)
-number-ten l i d b ed eb h = let q : finite (diagonalIn l i) ≡ true = rw (← ed) (sym eb ∙ h) in rw q
-
-pub number-nine : (l : List Float) (i : ℕ) (d : Float) (b : Bool) → d ≡ diagonalIn l i → b ≡ finite d → b ≡ false → 9 ≡ diagonalNumber (diagonalIn l i)
-number-nine l i d b ed eb h = let q : finite (diagonalIn l i) ≡ false = rw (← ed) (sym eb ∙ h) in rw q
-
 -- ---- the search for a bad diagonal
 
-module _ (l : List Float) (n a i : ℕ) (d : Float) (b : Bool) (h : i < n) (ed : d ≡ diagonalIn l i) (eb : b ≡ (not (eqb i a) && (not (finite d) || not (lt null d)))) where
+module _ (l : List Float) (n a i : ℕ) (d : Float) (b : Bool) (h : i < n) (ed : d ≡ diagonalIn l i) (eb : b ≡ (not (eqb i a) && not (finite d))) where
   abbrev bad : ℕ → Bool
   bad = badDiagonal a (diagonalOf (load term l 0 n))
 

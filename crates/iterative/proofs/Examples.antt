@@ -7,12 +7,12 @@ use lib.Ieee.{binary64, ofBits}
 use Rattle.sqrt.specs.Root.{root}
 use Rattle.field.specs.declared.Vec3.{Vec3}
 use Rattle.field.specs.Vec.{null, origin, scale}
-use Rattle.system.specs.System.{one}
+use Rattle.system.specs.System.{one, diagonalOf}
 use Rattle.iterative.specs.Problem.{times, dotStep, fieldDot, mostRounds}
 use Rattle.iterative.specs.Method.{State, accepted, refused, boundOf, allowedOf, startsActive, staysActive, badCurvature, badProduct, badResidual, quotient, stepped, searchStep}
 use Rattle.iterative.specs.Method.{preconditionedEntry, steppedEntry, searchEntry, differenceEntry, squareSum, start, badDiagonal, moved, redirected, round, rounds, residualOf, solution}
 use Rattle.operator.specs.Operator.{changed, times as repeated, ridgeEntry, bearingStep, spanPass, pointStep, directionStep, reducedBy}
-use Rattle.iterative.specs.Reduced.{diagonalOf, rightEntry, problem, problemBy}
+use Rattle.iterative.specs.Reduced.{rightEntry, problem, problemBy}
 use Rattle.system.proofs.Computing.{assembly}
 use Rattle.system.specs.Edges.{directed, half, pair, single}
 

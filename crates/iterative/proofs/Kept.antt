@@ -12,14 +12,13 @@ use Rattle.field.specs.Buffer.{load, store, vector}
 use Rattle.field.specs.declared.Vec3.{Vec3}
 use Rattle.network.specs.Network.{Links, rows}
 use Rattle.network.specs.declared.Shape.{Shape}
-use Rattle.system.specs.System.{Weights}
+use Rattle.system.specs.System.{Weights, diagonalOf}
 use Rattle.system.specs.Work.{positionsAt, rightAt, term, weightsAt}
 use Rattle.system.specs.declared.CameraTerm.{CameraTerm}
 use Rattle.system.specs.inner.Formed.{Segments, positionsIn, weightsIn}
 use Rattle.operator.proofs.Buffered.{weights-kept}
 use Rattle.operator.specs.Operator.{reducedBy}
 use Rattle.iterative.specs.Problem.{Problem}
-use Rattle.iterative.specs.Reduced.{diagonalOf}
 use Rattle.iterative.specs.inner.Solver.{Outside, PositionsKept, SystemKept, problemIn, problemWith}
 
 -- ---- all but the six fields

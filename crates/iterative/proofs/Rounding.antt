@@ -14,6 +14,7 @@ use Rattle.field.specs.declared.Place.the-variants.{At, Nowhere}
 use Rattle.field.specs.declared.Vec3.{Vec3}
 use Rattle.network.specs.Network.{Links, links}
 use Rattle.network.specs.declared.Shape.{Shape}
+use Rattle.system.specs.System.{diagonalOf}
 use Rattle.system.specs.Work.{appliedAt, matrixAt, positionsAt, preconditionedAt, residualAt, rightAt, searchAt, term, weightsAt}
 use Rattle.system.specs.inner.Formed.{weightsIn}
 use Rattle.operator.proofs.OperatorLaws.{by-length}
@@ -23,7 +24,6 @@ use Rattle.iterative.proofs.Kept.{kept-same, kept-store, kept-then, oth
 use Rattle.iterative.specs.Method.{Run, State, any, badCurvature, badProduct, boundOf, component, continued, ended, failed, moved, preconditioned, quotient, redirect, redirected, round, running}
 use Rattle.iterative.specs.Method.{searchField, squareSum, staysActive, step, steppedField}
 use Rattle.iterative.specs.Problem.{Problem, fieldDot}
-use Rattle.iterative.specs.Reduced.{diagonalOf}
 use Rattle.iterative.specs.declared.Active.{Active}
 use Rattle.iterative.specs.declared.Round.{Round}
 use Rattle.iterative.specs.declared.Step.{Step}

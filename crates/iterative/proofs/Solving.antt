@@ -16,7 +16,7 @@ use Rattle.field.specs.declared.Vec3.{Vec3}
 use Rattle.network.specs.Network.{Links, Network, links, linksOf}
 use Rattle.network.specs.inner.Sound.{LinksSound}
 use Rattle.network.specs.declared.Shape.{Shape}
-use Rattle.system.specs.System.{Weights, anchor, terms, weightsOf}
+use Rattle.system.specs.System.{Weights, anchor, terms, weightsOf, diagonalOf}
 use Rattle.system.specs.Work.{appliedAt, matrixAt, positionsAt, residualAt, rightAt, searchAt, term, termPlace}
 use Rattle.system.specs.declared.CameraTerm.{CameraTerm}
 use Rattle.system.specs.inner.Formed.{Segments, positionsIn, weightsIn}
@@ -30,7 +30,7 @@ use Rattle.iterative.proofs.Running.{rounds-over}
 use Rattle.iterative.specs.Method.{Ending, Run, State, accepted, acceptedUnless, allowed, allowedOf, badDiagonal, badResidual, boundOf, closed, component, difference, ended, failed, next}
 use Rattle.iterative.specs.Method.{opened, preconditioned, refused, residualOf, rounds, running, solution, squareSum, start, startsActive, tested, zeros}
 use Rattle.iterative.specs.Problem.{Problem, fieldDot, mostRounds}
-use Rattle.iterative.specs.Reduced.{diagonalOf, problem, problemBy, rightOf}
+use Rattle.iterative.specs.Reduced.{problem, problemBy, rightOf}
 use Rattle.iterative.specs.declared.Active.{Active}
 use Rattle.iterative.specs.declared.Outcome.{Outcome}
 use Rattle.iterative.specs.declared.Outcome.the-variants.{Failed as NotPlaced, Placed}
@@ -38,7 +38,7 @@ use Rattle.iterative.specs.declared.Round.{Round}
 use Rattle.iterative.specs.declared.Step.{Step}
 use Rattle.iterative.specs.declared.Step.the-variants.{Ended, Failed, Running}
 use Rattle.iterative.specs.inner.Solver.{Concluded, FieldsFit, Iterated, IterativeSolved, Opened, PositionsKept, Preconditioned, Settled, Started, SystemKept, Tested, answerOf, begun}
-use Rattle.iterative.specs.inner.Solver.{diagonalIn, diagonalNumber, firstRound, problemIn, rightSums, roundsFrom, runIn, stateIn}
+use Rattle.iterative.specs.inner.Solver.{firstRound, problemIn, rightSums, roundsFrom, runIn, stateIn}
 
 -- ---- the start
 
@@ -169,16 +169,11 @@ module _ (s : Shape) (ends offsets listed : List ℕ) (a : ℕ) (l : List Float)
   unfolding solution rounds roundsFrom problemBy
   found-is p e = rw (← e)
 
-  pub solved-bad : (p : Place) (i k : ℕ) → p ≡ lowest (badDiagonal a (diagonalOf (load term l 0 n))) n → p ≡ At i → k ≡ diagonalNumber (diagonalIn l i) → IterativeSolved s own l l (NotPlaced k i)
-  unfolding problemBy
-  solved-bad p i k e h ek =
-      let b = found _ n i (sym e ∙ h) in
-      let d : diagonalIn l i ≡ diagonalOf (load term l 0 n) i = diagonal-here l n i (b .1) in
-      let j = diagonalNumber (diagonalOf (load term l 0 n) i) in
-      let ej : k ≡ j = ek ∙ rw d in
-      let q : solution own ≡ refused j i = found-is (At i) (sym e ∙ h) ∙ rw (rounds-over own (mostRounds n) (failed j i) refl) in
+  pub solved-bad : (p : Place) (i : ℕ) → p ≡ lowest (badDiagonal a (diagonalOf (load term l 0 n))) n → p ≡ At i → IterativeSolved s own l l (NotPlaced 9 i)
+  solved-bad p i e h =
+      let q : solution own ≡ refused 9 i = found-is (At i) (sym e ∙ h) ∙ rw (rounds-over own (mostRounds n) (failed 9 i) refl) in
       record {
-        answer = rw ej (sym (ap answerOf q));
+        answer = sym (ap answerOf q);
         positions = λ t u. let z : _≡_ {A = ℕ} 0 1 = cc (q, u) in absurd (omega arith);
         outside = outside-same s l;
       }
@@ -216,10 +211,6 @@ module _ (s : Shape) (ends offsets listed : List ℕ) (a : ℕ) (l : List Float)
         positions = λ t u. C .kept .positions ∙ closed-positions own s l2 x t (sym q ∙ u);
         outside = outside-then (S .opened .outside) (outside-then (I .kept .outside) (C .kept .kept .outside));
       }
-
--- where the bad diagonal was found
-pub bad-place : (n : ℕ) (p : Place) (f : ℕ → Bool) (i size : ℕ) → p ≡ lowest f n → p ≡ At i → n ≤ 4096 → termPlace n ≤ size → (i < 4096) × (termPlace (i + 1) ≤ size)
-bad-place n p f i size e h few room = let b = found f n i (sym e ∙ h) .1 in (omega (arith, few, b), omega (arith, b, room))
 
 pub none-bad : (p : Place) (f : ℕ → Bool) (n : ℕ) → p ≡ lowest f n → p ≡ Nowhere → lowest f n ≡ Nowhere
 none-bad p f n e h = sym e ∙ h

@@ -139,9 +139,9 @@ differenceEntry f g i = minus (at f i) (at g i)
 abbrev pub difference : ℕ → List Vec3 → List Vec3 → List Vec3
 difference n f g = field n (differenceEntry f g)
 
--- the diagonal d cannot precondition camera i: 9 where it is not finite, 10 where it is finite and not above 0
+-- 9: camera i's diagonal d is not finite. (A finite one is above 0: system's specs/Diagonals.)
 unfoldable pub badDiagonal : ℕ → (ℕ → Float) → ℕ → Bool
-badDiagonal a d i = not (eqb i a) && (not (finite (d i)) || not (lt null (d i)))
+badDiagonal a d i = not (eqb i a) && not (finite (d i))
 
 -- ---- what the method carries from round to round
 
@@ -202,7 +202,7 @@ module _ (P : Problem) where
       }
 
   abbrev pub opened : Place → Run
-  opened (At i) = failed (cond (finite (P .diagonal i)) 10 9) i
+  opened (At i) = failed 9 i
   opened Nowhere = cond (any (start .round .active)) (running start) (ended start)
 
   -- ---- one round

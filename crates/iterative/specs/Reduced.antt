@@ -3,19 +3,14 @@ use mathlib.Core.List.{List}
 use mathlib.Core.Bool.{cond}
 use Prim.Native.Nat.{ℕ}
 use lib.Dec.{eqb}
-use lib.Ieee.{Float, add, binary64}
 use Rattle.field.specs.Count.{field}
 use Rattle.field.specs.Vec.{origin}
 use Rattle.field.specs.declared.Vec3.{Vec3}
 use Rattle.network.specs.Network.{Links, Network, linksOf}
-use Rattle.system.specs.System.{Weights, anchor, ridge, termAt, terms, weightsOf}
+use Rattle.system.specs.System.{Weights, anchor, diagonalOf, termAt, terms, weightsOf}
 use Rattle.system.specs.declared.CameraTerm.{CameraTerm}
 use Rattle.operator.specs.Operator.{reducedBy}
 use Rattle.iterative.specs.Problem.{Problem}
-
--- camera i's diagonal with the ridge
-unfoldable pub diagonalOf : List CameraTerm → ℕ → Float
-diagonalOf ts i = add binary64 (termAt ts i .diagonal) ridge
 
 -- the right side of n cameras, zero at the anchor a
 unfoldable pub rightEntry : ℕ → List CameraTerm → ℕ → Vec3

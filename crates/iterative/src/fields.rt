@@ -12,7 +12,7 @@ use field::zero;
 use network::Shape;
 use system::get_term;
 ghost use mathlib.Core.Path.{_≡_};
-ghost use mathlib.Core.Bool.{cond, not, _&&_, _||_};
+ghost use mathlib.Core.Bool.{cond, not, _&&_};
 ghost use Prim.Native.Nat.{_+_, _*_, _<_, _≤_};
 ghost use lib.Dec.{eqb};
 ghost use lib.ListN.{length};
@@ -21,11 +21,12 @@ ghost use lib.Ieee.Scale.{finite};
 ghost use Rattle.field.specs.Vec.{null, origin, minus, over};
 ghost use Rattle.field.specs.Count.{lowest};
 ghost use Rattle.field.specs.Buffer.{get, put, load, store, vector};
+ghost use Rattle.system.specs.System.{diagonalOf};
 ghost use Rattle.system.specs.Work.{term, termPlace};
 ghost use Rattle.operator.specs.inner.Applied.{Ordered};
 ghost use Rattle.iterative.specs.Problem.{times as products, dotStep, fieldDot};
 ghost use Rattle.iterative.specs.Method.{zeros, stepped as steppedOf, searchStep, searchField, difference, badDiagonal};
-ghost use Rattle.iterative.specs.Reduced.{diagonalOf, rightOf};
+ghost use Rattle.iterative.specs.Reduced.{rightOf};
 ghost use Rattle.iterative.specs.inner.Solver.{FieldAt, FieldStepped, FieldsFit, Preconditioned, TurnPreconditioned, TurnStepped, diagonalIn};
 ghost use Rattle.iterative.specs.inner.Solver.{signed};
 
@@ -80,18 +81,15 @@ pub(crate) fn ridged_diagonal(work: &[f64], i: usize) -> f64
 
 // Camera i, whose diagonal with the ridge is d, cannot be preconditioned.
 fn bad_at(i: usize, anchor: usize, d: f64) -> bool
-    ensures { λ r. ⌜ r ≡ (not (eqb i anchor) && (not (finite d) || not (lt null d))) ⌝ }
+    ensures { λ r. ⌜ r ≡ (not (eqb i anchor) && not (finite d)) ⌝ }
 {
     if i == anchor {
         return false;
     }
-    if !is_finite(d) {
-        return true;
-    }
-    !(0.0 < d)
+    !is_finite(d)
 }
 
-// The lowest camera whose diagonal with the ridge is not finite, or not above 0.
+// The lowest camera whose diagonal with the ridge is not finite.
 pub(crate) fn find_bad_diagonal(s: Shape, work: &[f64], anchor: usize) -> Place
     requires { ⌜ FieldsFit s (length (now work)) ⌝ }
     ensures { λ r. ⌜ r ≡ lowest (badDiagonal anchor (diagonalOf (load term (now (work .entry)) 0 (s .cameras)))) (s .cameras) ⌝ }

@@ -4,13 +4,11 @@ mod ends;
 mod fields;
 mod rounds;
 
-use double::is_finite;
 use ends::conclude;
 use ends::start;
 use field::Place;
 use field::Vec3;
 use fields::find_bad_diagonal;
-use fields::ridged_diagonal;
 use network::Shape;
 use rounds::iterate;
 ghost use mathlib.Core.Path.{_≡_};
@@ -21,11 +19,12 @@ ghost use Rattle.field.specs.declared.Place.the-variants.{Nowhere};
 ghost use Rattle.field.specs.Buffer.{load};
 ghost use Rattle.network.specs.Network.{links};
 ghost use Rattle.network.specs.inner.Sound.{LinksSound};
-ghost use Rattle.system.specs.Work.{term, termPlace, matrixAt};
+ghost use Rattle.system.specs.System.{diagonalOf};
+ghost use Rattle.system.specs.Work.{term, matrixAt};
 ghost use Rattle.system.specs.inner.Formed.{weightsIn};
 ghost use Rattle.iterative.specs.Method.{badDiagonal};
-ghost use Rattle.iterative.specs.Reduced.{diagonalOf, problemBy};
-ghost use Rattle.iterative.specs.inner.Solver.{IterativeSolved, diagonalIn, diagonalNumber};
+ghost use Rattle.iterative.specs.Reduced.{problemBy};
+ghost use Rattle.iterative.specs.inner.Solver.{IterativeSolved};
 
 // Which of the components x, y and z are still iterated.
 pub struct Active {
@@ -54,19 +53,7 @@ pub enum Outcome {
     Placed(usize),
 }
 
-// 9 where the diagonal of camera i with the ridge is not finite, else 10.
-fn diagonal_number(work: &[f64], i: usize) -> usize
-    requires { ⌜ (i < 4096) × (termPlace (i + 1) ≤ length (now work)) ⌝ }
-    ensures { λ r. ⌜ r ≡ diagonalNumber (diagonalIn (now (work .entry)) i) ⌝ }
-{
-    if is_finite(ridged_diagonal(work, i)) {
-        10
-    } else {
-        9
-    }
-}
-
-// The solve where every diagonal can precondition.
+// The solve where every diagonal is finite.
 fn run(
     s: Shape,
     ends: &[usize],
@@ -106,7 +93,7 @@ pub fn solve_iterative(
     let bad = find_bad_diagonal(s, work, anchor);
     match bad {
         Place::At(i) => Outcome::Failed {
-            number: diagonal_number(work, i),
+            number: 9,
             place: i,
         },
         Place::Nowhere => run(s, ends, offsets, listed, anchor, work),

@@ -124,6 +124,17 @@ module _ (listed : List ℕ) where
           omega arith
       go false e m = omega arith
 
+  -- a row that is named stands at some place
+  pub named-some : (r n : ℕ) → 0 < named listed r n → (k : ℕ) × (k < n) × (getD listed k 0 ≡ r)
+  unfolding named
+  named-some r zero h = absurd (omega arith)
+  named-some r (suc n) h = go (eqb (getD listed n 0) r) refl h (named-some r n)
+    where
+      go : (t : Bool) → eqb (getD listed n 0) r ≡ t → 0 < named listed r n + cond t 1 0 → (0 < named listed r n → (k : ℕ) × (k < n) × (getD listed k 0 ≡ r)) →
+          (k : ℕ) × (k < suc n) × (getD listed k 0 ≡ r)
+      go true e h f = (n, omega arith, eqb-true _ _ e)
+      go false e h f = let u = f (omega arith) in (u .0, omega (arith, u .1), u .2)
+
   pub named-once : (b : ℕ) → ((k : ℕ) → k < b → getD listed k 0 < b) → ((j k : ℕ) → j < k → k < b → getD listed j 0 ≡ getD listed k 0 → ⊥) → (r : ℕ) → r < b → named listed r b ≡ 1
   named-once b below apart = sum-full (λ r. named listed r b) b (λ r l. named-most r b apart) (sum-named b b below)
 

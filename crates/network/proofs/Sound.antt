@@ -1,7 +1,7 @@
 -- What a call knows whose tests refuse nothing, stage by stage. Assumes nothing.
 use mathlib.Core.Path.{_≡_, refl, sym, ap, ap₂, _∙_}
 use mathlib.Core.List.{List, [], _∷_, _++_}
-use mathlib.Core.Bool.{Bool, true, false, cond, not, _&&_, _||_, true≢false}
+use mathlib.Core.Bool.{Bool, true, false, cond, _&&_, _||_, true≢false}
 use Prim.Native.Nat.{ℕ, _+_, _-_, _*_, _≤_, _<_}
 use native.Mathlib.Nat.{mul-le-mul}
 use native.Mathlib.Omega.{arith}
@@ -19,15 +19,14 @@ use Rattle.field.proofs.Counting.{none-of}
 use Rattle.network.specs.declared.Shape.{Shape}
 use Rattle.network.specs.declared.Verdict.{Verdict}
 use Rattle.network.specs.declared.Verdict.the-variants.{Passed}
-use Rattle.network.specs.Network.{Graph, Network, linksOf, links, rows, firstEnd, secondEnd}
-use Rattle.network.specs.Lists.{listsHold}
-use Rattle.network.specs.Refusals.{verdict, test, testAt, Section, running, badWeight, badScale, badVector, badRow, badCameras, badCounts, countTests, endsFit, raysFit, vectorsFit, listsFit}
+use Rattle.network.specs.Network.{Graph, Links, Network, links, rows, firstEnd, secondEnd, spanOf, rowAt}
+use Rattle.network.specs.Refusals.{verdict, test, Section, running, badWeight, badScale, badVector, badRow, badCameras, badCounts, countTests, endsFit, raysFit, vectorsFit, listsFit}
 use Rattle.network.specs.Refusals.{contentFits, networkFits, lengthTests, strays, loops, endTests, listTests, weightTests, rowSections, domainTests, badRoute, routeTests, denseRows}
-use Rattle.network.specs.Refusals.{graphRowTests, networkRowTests}
-use Rattle.network.specs.inner.Sound.{ShapeSound, DomainLengths, ContentLengths, NetworkLengths, EndsSound, OffsetsSound, ListedSound, LinksSound, GraphSound, NetworkSound}
+use Rattle.network.specs.Refusals.{graphRowTests, networkRowTests, networkTests}
+use Rattle.network.specs.inner.Sound.{ShapeSound, ContentLengths, NetworkLengths, EndsSound, OffsetsSound, ListedSound, LinksSound, GraphSound, NetworkSound}
 use Rattle.network.proofs.Verdicts.{first-passed, stage-passed, verdict-one, test-passed, test-at-passed}
 use Rattle.network.proofs.Sections.{running-passed}
-use Rattle.network.proofs.PointLists.{lists-parts, is-bearing, own-point, ascends, once}
+use Rattle.network.proofs.PointLists.{locate, named-some, lists-parts, is-bearing, own-point, ascends, once}
 
 -- what a test of one list says
 only : (v : Verdict) → verdict (v ∷ []) ≡ Passed → v ≡ Passed
@@ -132,6 +131,15 @@ links-sound s ends offsets listed E o l e =
       once = once _ _ _ _ _ (t .0) (t .1);
     }
 
+-- a bearing stands in its own point's list, since it is named, and under no other point
+pub listed-under : (L : Links) → LinksSound L → (r : ℕ) → r < L .shape .bearings → let k = spanOf (L .offsets) (secondEnd (L .ends) r) in (i : ℕ) × (i < k .size) × (rowAt (L .listed) k i ≡ r)
+listed-under L S r l =
+    let u = named-some (L .listed) r (L .shape .bearings) (omega (arith, S .once r l)) in
+    let v = locate (λ p. getD (L .offsets) p 0) (L .shape .points) (u .0) (S .offsets .start) (rw (S .offsets .end) (u .1)) in
+    let q : secondEnd (L .ends) r ≡ v .0 = sym (ap (secondEnd (L .ends)) (u .2)) ∙ S .own (v .0) (u .0) (v .1) (v .2) (v .3) in
+    let e : getD (L .offsets) (v .0) 0 + (u .0 - getD (L .offsets) (v .0) 0) ≡ u .0 = omega (arith, v .2) in
+    rw q (u .0 - getD (L .offsets) (v .0) 0, omega (arith, v .2, v .3), rw e (u .2))
+
 -- ---- 7: the domain, number by number
 
 pub weight-domain : (weights : List Float) (r : ℕ) → badWeight weights r ≡ false → (finite (getD weights r nan) ≡ true) × (lt (getD weights r nan) null ≡ false)
@@ -198,6 +206,14 @@ network-sound net cameras s f e =
       },
       d .2,
     )
+
+-- 1 to 7
+pub tests-sound : (net : Network) → verdict (networkTests net) ≡ Passed → NetworkSound net
+unfolding networkTests
+tests-sound net e =
+    let h = stage-passed (countTests (net .shape)) _ e in
+    let k = stage-passed (lengthTests (networkFits net)) _ (h .1) in
+    network-sound net [] (counts-sound _ (h .0)) (lengths-fit _ (k .0)) (k .1) .0
 
 -- ---- 8
 

@@ -180,3 +180,7 @@ networkRowTests net cameras =
     endTests (net .shape) (net .ends)
     ++ (listTests (net .shape) (net .ends) (net .offsets) (net .listed)
     ++ domainTests (rowSections (net .shape) (net .rays) (net .weights) (net .scales) (net .positions) ++ cameras))
+
+-- 1 to 7 of the network alone: a call that is lent buffers tests their lengths in 3 too
+unfoldable pub networkTests : Network → List Verdict
+networkTests net = countTests (net .shape) ++ (lengthTests (networkFits net) ++ networkRowTests net [])

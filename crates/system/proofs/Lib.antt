@@ -3,6 +3,7 @@ pub mod Anchor
 pub mod Terms
 pub mod Sums
 pub mod Rows
+pub mod Diagonals
 pub mod Forming
 pub mod Edges
 pub mod Computing

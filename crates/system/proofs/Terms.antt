@@ -15,7 +15,7 @@ use Rattle.field.specs.Buffer.{Cell, part, write, get, put, flat, load, store, 
 use Rattle.field.proofs.Counting.{field-zero, field-suc}
 use Rattle.field.proofs.Buffers.{Lawful, at-load, getD-part, get-part, get-vector, write-sets, filled-write, flat-append}
 use Rattle.system.specs.declared.CameraTerm.{CameraTerm}
-use Rattle.system.specs.System.{tiny, one, noTerm, degreeAt, sees, departs, arrives}
+use Rattle.system.specs.System.{tiny, noTerm, degreeAt, reducedWeight, sees, departs, arrives}
 use Rattle.system.specs.Work.{term, termPlace}
 
 -- ---- what a row adds
@@ -29,7 +29,7 @@ sees-faint e w v o t h = rw h
 
 module _ (e : Float) (o u : Vec3) (t : CameraTerm) where
   pub sees-full : (w : Float) (v p q : Vec3) → lt w tiny ≡ false → p ≡ scale v e → q ≡ minus p o → u ≡ plus (t .right) q →
-      termOf (add binary64 (t .diagonal) (mul binary64 e (sub binary64 one (div binary64 e w)))) u (add binary64 (t .degree) e) ≡ sees e w v o t
+      termOf (add binary64 (t .diagonal) (reducedWeight e w)) u (add binary64 (t .degree) e) ≡ sees e w v o t
   unfolding sees
   sees-full w v p q h a b k = rw (h, k, b, a)
 

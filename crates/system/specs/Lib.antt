@@ -1,4 +1,5 @@
 pub mod System
+pub mod Diagonals
 pub mod Work
 pub mod Edges
 pub mod inner

@@ -109,11 +109,15 @@ meanOffset net p = sumsOf net .mean p
 abbrev pub noTerm : CameraTerm
 noTerm = record { diagonal = null; right = origin; degree = null }
 
+-- What a bearing of effective weight e adds to its camera's diagonal, on a point of weight w: e × (1 - e / w).
+abbrev pub reducedWeight : Float → Float → Float
+reducedWeight e w = mul binary64 e (sub binary64 one (div binary64 e w))
+
 -- A bearing of effective weight e with the pull o, on a point of weight w and mean offset v: it adds e to the degree always,
 -- and nothing else where w is below 1e-12.
 unfoldable pub sees : Float → Float → Vec3 → Vec3 → CameraTerm → CameraTerm
 sees e w v o t = record {
-  diagonal = cond (lt w tiny) (t .diagonal) (add binary64 (t .diagonal) (mul binary64 e (sub binary64 one (div binary64 e w))));
+  diagonal = cond (lt w tiny) (t .diagonal) (add binary64 (t .diagonal) (reducedWeight e w));
   right = cond (lt w tiny) (t .right) (plus (t .right) (minus (scale v e) o));
   degree = add binary64 (t .degree) e;
 }
@@ -160,6 +164,10 @@ termsBy s ends S = assembleRows s ends (rows s) S (field (s .cameras) (λ c. noT
 
 abbrev pub terms : Network → List CameraTerm
 terms net = termsBy (net .shape) (net .ends) (sumsOf net)
+
+-- camera i's diagonal with the ridge
+unfoldable pub diagonalOf : List CameraTerm → ℕ → Float
+diagonalOf ts i = add binary64 (termAt ts i .diagonal) ridge
 
 -- ---- the anchor
 

@@ -1,5 +1,4 @@
-use Rattle.iterative.proofs.Solving.{bad-place, none-bad, solved-bad}
-use native.Mathlib.Omega.{arith}
+use Rattle.iterative.proofs.Solving.{none-bad, solved-bad}
 use borrow.Author.Needs.{needs}
 use Rattle.iterative.proofs.solve_iterative.Statement.{statement}
 use Rattle.iterative.proofs.solve_iterative.Tie as tie
@@ -10,7 +9,6 @@ solve-iterative-spec =
     (tie.spec
     (λ c κs. search needs)
     (λ c. search needs)
-    (λ c κs. let k = c .before .before in bad-place _ _ _ _ _ (k .before .before .find-bad-diagonal .ensures) (k .bad .given .1) (omega arith) (omega arith))
     (λ c. search needs)
     (λ c κs. (search needs, (search needs, search none-bad)))
     (λ c. search needs)

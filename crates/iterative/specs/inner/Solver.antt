@@ -16,14 +16,14 @@ use Rattle.network.specs.Network.{Links}
 use Rattle.network.specs.inner.Sound.{ShapeSound}
 use Rattle.network.specs.declared.Shape.{Shape}
 use Rattle.system.specs.Work.{appliedAt, positionsAt, residualAt, rightAt, searchAt, term, termPlace, weightsAt}
-use Rattle.system.specs.System.{ridge}
+use Rattle.system.specs.System.{ridge, diagonalOf}
 use Rattle.system.specs.inner.Formed.{positionsIn, weightsIn}
 use Rattle.operator.specs.Operator.{reducedBy}
 use Rattle.iterative.specs.Method.{Ending, Run, State, accepted, allowed, any, badResidual, boundOf, closed, component, continued, ended}
 use Rattle.iterative.specs.Method.{failed, flag, moved, next, preconditioned, redirect, refused, residualOf, round, running, solution}
 use Rattle.iterative.specs.Method.{startsActive, step, stepped, steppedField, zeros}
 use Rattle.iterative.specs.Problem.{Problem, dotStep, fieldDot, mostRounds}
-use Rattle.iterative.specs.Reduced.{diagonalOf, problemBy, rightOf}
+use Rattle.iterative.specs.Reduced.{problemBy, rightOf}
 use Rattle.iterative.specs.declared.Active.{Active}
 use Rattle.iterative.specs.declared.Outcome.{Outcome}
 use Rattle.iterative.specs.declared.Outcome.the-variants.{Failed as NotPlaced, Placed}
@@ -202,9 +202,6 @@ pub record Started (s : Shape) (a : ℕ) (l l' : List Float) (v : Vec3) (r : Rou
   pub opened : Opened s a l l'
   pub sums : v ≡ rightSums s a l'
   pub round : r ≡ firstRound s a l' v
-
-abbrev pub diagonalNumber : Float → ℕ
-diagonalNumber d = cond (finite d) 10 9
 
 -- ---- the end
 

@@ -1,5 +1,4 @@
-use borrow.Author.Tests.{not-true, not-false, eq-eqb, ne-eqb}
-use mathlib.Core.Path.{sym, _∙_}
+use borrow.Author.Tests.{eq-eqb, ne-eqb}
 use borrow.Author.Needs.{needs}
 use Rattle.iterative.proofs.fields.bad_at.Statement.{statement}
 use Rattle.iterative.proofs.fields.bad_at.Tie as tie
@@ -11,10 +10,7 @@ is-finite-requires : tie.Need-is-finite-requires
 is-finite-requires c κs = search needs
 
 returns-2 : tie.Need-returns-2
-returns-2 c = rw (ne-eqb _ _ (c .before .before .if1 .left), sym (c .before .is-finite .ensures) ∙ not-true _ (c .if2 .taken))
-
-returns-3 : tie.Need-returns-3
-returns-3 c = rw (ne-eqb _ _ (c .before .before .if1 .left), sym (c .before .is-finite .ensures) ∙ not-false _ (c .if2 .left))
+returns-2 c = rw (ne-eqb _ _ (c .before .if1 .left), c .is-finite .ensures)
 
 pub bad-at-spec : {M : Type 1} → statement M
-bad-at-spec = tie.close (tie.spec returns is-finite-requires returns-2 returns-3)
+bad-at-spec = tie.close (tie.spec returns is-finite-requires returns-2)

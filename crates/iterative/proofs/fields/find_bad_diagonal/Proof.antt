@@ -5,9 +5,9 @@ use Rattle.field.specs.Buffer.{load}
 use Rattle.field.specs.Count.{lowest}
 use Rattle.field.specs.declared.Place.the-variants.{Nowhere}
 use Rattle.field.proofs.Counting.{lowest-zero}
+use Rattle.system.specs.System.{diagonalOf}
 use Rattle.system.specs.Work.{term}
 use Rattle.iterative.specs.Method.{badDiagonal}
-use Rattle.iterative.specs.Reduced.{diagonalOf}
 use Rattle.iterative.proofs.Entries.{bad-found, bad-not, bad-none}
 use borrow.Author.Needs.{needs}
 use Rattle.iterative.proofs.fields.find_bad_diagonal.Statement.{statement}

@@ -3,9 +3,9 @@ use Prim.Native.Nat.{_≤_, _-_}
 use native.Mathlib.Omega.{arith}
 use lib.ListN.{length}
 use Rattle.field.specs.Buffer.{load, vector}
+use Rattle.system.specs.System.{diagonalOf}
 use Rattle.system.specs.Work.{term}
 use Rattle.iterative.specs.Method.{preconditionedEntry}
-use Rattle.iterative.specs.Reduced.{diagonalOf}
 use Rattle.iterative.proofs.Entries.{FillDot, fill-dot-none, fill-dot-field, fill-dot-sum, precondition-turn}
 use borrow.Author.Needs.{needs}
 use Rattle.iterative.proofs.fields.precondition.Statement.{statement}
