@@ -1,7 +1,7 @@
 -- What a call knows whose tests refuse nothing, stage by stage. Assumes nothing.
 use mathlib.Core.Path.{_≡_, refl, sym, ap, ap₂, _∙_}
 use mathlib.Core.List.{List, [], _∷_, _++_}
-use mathlib.Core.Bool.{Bool, true, false, cond, _&&_, _||_, true≢false}
+use mathlib.Core.Bool.{Bool, true, false, cond, not, _&&_, _||_, true≢false}
 use Prim.Native.Nat.{ℕ, _+_, _-_, _*_, _≤_, _<_}
 use native.Mathlib.Nat.{mul-le-mul}
 use native.Mathlib.Omega.{arith}
@@ -24,7 +24,7 @@ use Rattle.network.specs.Refusals.{verdict, test, Section, running, badW
 use Rattle.network.specs.Refusals.{contentFits, networkFits, lengthTests, strays, loops, endTests, listTests, weightTests, rowSections, domainTests, badRoute, routeTests, denseRows}
 use Rattle.network.specs.Refusals.{graphRowTests, networkRowTests, networkTests}
 use Rattle.network.specs.inner.Sound.{ShapeSound, ContentLengths, NetworkLengths, EndsSound, OffsetsSound, ListedSound, LinksSound, GraphSound, NetworkSound}
-use Rattle.network.proofs.Verdicts.{first-passed, stage-passed, verdict-one, test-passed, test-at-passed}
+use Rattle.network.proofs.Verdicts.{first-passed, stage-passed, verdict-one, test-passed, test-at-passed, passed-test}
 use Rattle.network.proofs.Sections.{running-passed}
 use Rattle.network.proofs.PointLists.{locate, named-some, lists-parts, is-bearing, own-point, ascends, once}
 
@@ -53,6 +53,10 @@ counted {s} e h = counts-sound s (sym e ∙ h)
 pub lengths-fit : (fit : Bool) → verdict (lengthTests fit) ≡ Passed → fit ≡ true
 unfolding lengthTests
 lengths-fit fit e = not-false _ (test-passed 3 _ (only _ e))
+
+pub fit-lengths : {fit : Bool} → fit ≡ true → verdict (lengthTests fit) ≡ Passed
+unfolding lengthTests
+fit-lengths e = verdict-one _ ∙ passed-test 3 (ap not e)
 
 pub measured : {fit f : Bool} {x : Verdict} → x ≡ verdict (lengthTests fit) → x ≡ Passed → fit ≡ f → f ≡ true
 measured e h k = sym k ∙ lengths-fit _ (sym e ∙ h)

@@ -19,9 +19,9 @@ use Rattle.network.specs.declared.Verdict.the-variants.{Refused as Stops, Passe
 use Rattle.network.specs.Network.{Network, links, linksOf, network, rows}
 use Rattle.network.specs.declared.Shape.{Shape}
 use Rattle.network.specs.inner.Sound.{LinksSound, NetworkLengths, NetworkSound}
-use Rattle.network.specs.Refusals.{verdict, countTests, lengthTests, networkFits, networkRowTests, routeTests, badRoute}
-use Rattle.network.proofs.Verdicts.{halts-in, passes-in, stage-passed}
-use Rattle.network.proofs.Sound.{counts-sound, lengths-fit, network-fits, network-sound, route-sound}
+use Rattle.network.specs.Refusals.{verdict, countTests, lengthTests, networkFits, networkRowTests, networkTests, routeTests, badRoute}
+use Rattle.network.proofs.Verdicts.{both-passed, halts-in, passes-in, stage-passed}
+use Rattle.network.proofs.Sound.{fit-lengths, lengths-fit, network-fits, route-sound, tests-sound}
 use Rattle.system.specs.System.{anchor, anchorOf, sumsFrom, terms, termsBy, weightsOf}
 use Rattle.system.specs.Work.{matrixAt, term, termPlace, workLength}
 use Rattle.system.specs.inner.Formed.{Formed, RowsThere, Segments, positionsIn, weightsIn}
@@ -67,6 +67,16 @@ module _ (s : Shape) (ends : List ℕ) (rays weights scales points : List Float)
   unfolding submissionTests
   submission-checked route limit work cameras out x v y e p f q h = passes-in (countTests s) _ e p (passes-in (lengthTests _) _ f q h)
 
+-- 1 to 7 of the network are among a solve's tests
+pub network-passes : (i : Submission) → submissionVerdict i ≡ Passed → verdict (networkTests (i .net)) ≡ Passed
+unfolding submissionTests networkTests
+network-passes i e =
+    let s = i .net .shape in
+    let a = stage-passed (countTests s) _ e in
+    let b = stage-passed (lengthTests (networkFits (i .net) && buffersFit s (i .route) (i .limit) (i .work) (i .cameras) (i .points))) _ (a .1) in
+    let f = both-true (networkFits (i .net)) _ (lengths-fit _ (b .0)) .0 in
+    both-passed (countTests s) _ (a .0) (both-passed (lengthTests (networkFits (i .net))) _ (fit-lengths f) (stage-passed (networkRowTests (i .net) []) _ (b .1) .0))
+
 -- what 'nothing was refused' says
 pub record SubmissionSound (i : Submission) : Type 0 where
   pub checked : Checked (i .net) (i .route) (i .limit) (i .work)
@@ -86,7 +96,7 @@ submission-sound i v h p =
     let k = both-true _ _ (g .1) in
     record {
       checked = record {
-        sound = network-sound net [] (counts-sound s (a .0)) (f .0) (c .0) .0;
+        sound = tests-sound net (network-passes i (sym h ∙ p));
         legal = route-sound (i .route) (i .limit) (c .1);
         room = leb-true _ _ (k .1);
       };

@@ -1,3 +1,4 @@
 pub mod Routes
 pub mod Solved
+pub mod Diagonals
 pub mod inner
