@@ -22,7 +22,6 @@ REFUSALS = {
     7: 'a weight, scale, ray, direction or position is outside the domain',
     8: 'route not 1, 2 or 3, or dense limit over 256',
     9: 'iterative: the diagonal + 1e-6 is not finite',
-    10: 'iterative: the diagonal + 1e-6 is not above 0',
     11: 'iterative: the curvature is not finite or too small',
     12: 'iterative: the new product is not finite, or the old one is at or below 0',
     13: 'iterative: the final residual is not finite or above the allowed',
@@ -111,7 +110,7 @@ def place_words(number, place, counts):
                 return f'{name} {place}'
             place -= count
         return f'camera {place}' if counts else f'row {place}'
-    if number in (9, 10):
+    if number == 9:
         return f'camera {place}'
     if number in (11, 12, 13):
         return 'xyz'[place] if place < 3 else str(place)

@@ -49,7 +49,6 @@
  *    7  weight, scale, ray, direction or position outside the domain     row, b+e+p for point p, b+e+m+c for camera c
  *    8  route not 1, 2 or 3, or dense limit over 256              place 0
  *    9  iterative: diagonal + 1e-6 not finite                     camera
- *   10  iterative: it is finite and not above 0                   camera
  *   11  iterative: curvature not finite, or at most 2^-52 times the size of the old product     component (0, 1, 2 for x, y, z)
  *   12  iterative: new product not finite, or old one at or below 0     component
  *   13  iterative: final residual not finite or above the allowed component
@@ -61,6 +60,8 @@
  *   21  image: offsets or lengths break the image rule            pair
  *   22  image: section length differs from what the counts say    section
  *   23  image: output shorter than the image                      bytes needed
+ *
+ * There is no 10: where a camera's diagonal + 1e-6 is finite it is above 0, whatever network is sent.
  *
  * 1 to 8 and 20 to 22 are tested in number order (an image's 20 to 22 before the rest), each at its lowest place. 9 to 17 leave the
  * outputs untouched, the others every buffer but the report's first number.

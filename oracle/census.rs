@@ -27,7 +27,7 @@ fn main() {
     for (kind, count) in kinds {
         println!("  {count:>8}  {kind}");
     }
-    if !met.report() {
+    if !(met.report() & classes::no_tens()) {
         std::process::exit(1);
     }
 }

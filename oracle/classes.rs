@@ -3,8 +3,8 @@
 use oracle::{Placement, Tag};
 use std::collections::BTreeMap;
 
-/// Every class but 10 (a diagonal is never below 0: a point's weight is not below any of its bearings' effective weights) and
-/// 12 by a NaN (a finite curvature means finite applied numbers, so a residual can overflow but not become NaN in one round).
+/// Every class but 12 by a NaN (a finite curvature means finite applied numbers, so a residual can overflow but not become NaN in one round).
+/// 10 is no class: no diagonal meets it (the theorem of crates/system/specs/Diagonals.antt), and `no_tens` counts it in the Rust's own text.
 pub const WANTED: [&str; 30] = [
     "accepted, route 1",
     "accepted, route 2",
@@ -96,6 +96,12 @@ pub fn of_solve(n: usize, route: usize, answer: &Result<Placement, Tag>) -> Vec<
         }
     }
     classes
+}
+
+/// Prints how often the Rust's own text met 10; whether it never did.
+pub fn no_tens() -> bool {
+    println!("10, which the Rust's own text tests and no diagonal can meet: met {} times", oracle::tens());
+    oracle::tens() == 0
 }
 
 /// How often each class was met, and the case that met it first.

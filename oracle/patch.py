@@ -43,7 +43,7 @@ patch("plan.rs",
       "    pub(super) point_pair_slots: Vec<usize>,\n"
       "    pub(super) direction_slots: Vec<usize>,\n")
 
-# Refusal 9 (the diagonal is not finite) and 10 (finite and not above 0), at the camera: one test in the text.
+# Refusal 9 (the diagonal is not finite), at the camera. The text's one test is also that of 10 (finite and not above 0), which is counted and cannot be met.
 patch("pcg.rs",
       "        if !diagonal.is_finite() || diagonal <= 0.0 {\n"
       "            return Err(GlobalPositioningError::LinearSolveFailed);\n",

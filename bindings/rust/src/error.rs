@@ -45,7 +45,7 @@ impl fmt::Display for Row {
     }
 }
 
-/// A refused call. Each variant is one numbered refusal; 9 to 17 are the kernel's `LinearSolveFailed`.
+/// A refused call. Each variant is one numbered refusal; 9 to 17 are the kernel's `LinearSolveFailed`. There is no 10: no network can meet it.
 #[derive(Clone, Copy, Debug, PartialEq, Eq, Hash)]
 #[non_exhaustive]
 pub enum Error {
@@ -90,11 +90,6 @@ pub enum Error {
     Route,
     /// 9, iterative: diagonal + 1e-6 is not finite.
     DiagonalNotFinite {
-        /// The camera.
-        camera: usize,
-    },
-    /// 10, iterative: diagonal + 1e-6 is finite and not above 0.
-    DiagonalNotPositive {
         /// The camera.
         camera: usize,
     },
@@ -180,7 +175,6 @@ impl Error {
             7 => Self::OutsideDomain { row, place },
             8 => Self::Route,
             9 => Self::DiagonalNotFinite { camera: place },
-            10 => Self::DiagonalNotPositive { camera: place },
             11 => Self::Curvature { component: place },
             12 => Self::Product { component: place },
             13 => Self::Residual { component: place },
@@ -234,7 +228,6 @@ impl Error {
             Self::OutsideDomain { .. } => 7,
             Self::Route => 8,
             Self::DiagonalNotFinite { .. } => 9,
-            Self::DiagonalNotPositive { .. } => 10,
             Self::Curvature { .. } => 11,
             Self::Product { .. } => 12,
             Self::Residual { .. } => 13,
@@ -263,7 +256,7 @@ impl Error {
             | Self::SelfLoop { place, .. }
             | Self::OutsideDomain { place, .. }
             | Self::Other { place, .. } => place,
-            Self::DiagonalNotFinite { camera } | Self::DiagonalNotPositive { camera } => camera,
+            Self::DiagonalNotFinite { camera } => camera,
             Self::Curvature { component }
             | Self::Product { component }
             | Self::Residual { component } => component,
@@ -275,9 +268,9 @@ impl Error {
         }
     }
 
-    /// Whether the method gave up (9 to 17): the kernel's `LinearSolveFailed`.
+    /// Whether the method gave up (9, or 11 to 17): the kernel's `LinearSolveFailed`.
     pub fn is_linear_solve_failure(&self) -> bool {
-        (9..=17).contains(&self.number())
+        matches!(self.number(), 9 | 11..=17)
     }
 }
 
@@ -336,12 +329,6 @@ impl fmt::Display for Error {
             ),
             Self::DiagonalNotFinite { camera } => {
                 write!(formatter, "iterative: camera {camera}: diagonal not finite")
-            }
-            Self::DiagonalNotPositive { camera } => {
-                write!(
-                    formatter,
-                    "iterative: camera {camera}: diagonal not above 0"
-                )
             }
             Self::Curvature { component } => write!(
                 formatter,
@@ -424,9 +411,10 @@ mod tests {
                 };
                 assert_eq!(error.place(), place, "{error:?}");
                 assert!(!error.to_string().contains('?') || place > 2, "{error}");
-                assert_eq!(error.is_linear_solve_failure(), (9..=17).contains(&number));
+                let gave_up = number == 9 || (11..=17).contains(&number);
+                assert_eq!(error.is_linear_solve_failure(), gave_up);
                 let other = matches!(error, Error::Other { .. });
-                assert_eq!(other, number == 18 || number == 99);
+                assert_eq!(other, [10, 18, 99].contains(&number));
             }
         }
     }

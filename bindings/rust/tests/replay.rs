@@ -119,7 +119,6 @@ fn answers() {
         *met.entry(replay(case, &mut workspace)).or_insert(0) += 1;
     }
     println!("{} cases: {met:?}", cases.len());
-    // 10 is never met
     assert!(
         [0, 9, 11, 12, 13, 14, 15, 16, 17]
             .iter()

@@ -1,7 +1,7 @@
 -- The order of doubles, NaN included: `lt` is transitive, no number is below itself, and whatever is no NaN lies above the
 -- lower or below the greater of two. Three finite numbers are compared on one scale. Assumes nothing.
 use mathlib.Core.Path.{_≡_, refl, sym, ap, ap₂, _∙_}
-use mathlib.Core.Bool.{Bool, true, false, not, _&&_, true≢false, false≢true}
+use mathlib.Core.Bool.{Bool, true, false, not, true≢false, false≢true}
 use Prim.Native.Nat.{ℕ, _+_, _*_, _<_}
 use native.Mathlib.Omega.{arith}
 use native.Mathlib.Nat.{mul-le-mul-right, mul-lt-mul-of-pos-right, mul-assoc, mul-comm, add-mul, zero-mul}

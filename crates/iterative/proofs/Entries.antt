@@ -1,27 +1,27 @@
 -- The passes over the cameras: what each turn stores is the field's own entry; sums over the cameras but the anchor. Assumes nothing.
 use mathlib.Core.Path.{ap, sym, _∙_, _≡_}
 use mathlib.Core.List.{List}
-use mathlib.Core.Bool.{Bool, cond, not, _&&_, _||_, true, false}
+use mathlib.Core.Bool.{Bool, cond, not, _&&_, true, false}
 use Prim.Native.Nat.{ℕ, _*_, _+_, _<_, _≤_}
 use native.Mathlib.Nat.{zero-add}
 use native.Mathlib.Numerals.{add-one}
 use native.Mathlib.Omega.{arith}
 use lib.Dec.{eqb}
-use lib.ListN.{getD, length}
-use lib.Ieee.{Float, add, binary64, lt}
+use lib.ListN.{length}
+use lib.Ieee.{Float}
 use lib.Ieee.Scale.{finite}
 use Rattle.field.proofs.Buffers.{at-load, seen-before, vector-lawful}
-use Rattle.field.proofs.Counting.{length-field, upto-suc, upto-zero, lowest-more, lowest-found}
+use Rattle.field.proofs.Counting.{upto-suc, upto-zero, lowest-more, lowest-found}
 use Rattle.field.proofs.Fills.{fill-ended, fill-more, fill-none, filled-at, seen-later, seen-own, seen-prior}
 use Rattle.field.specs.Buffer.{get, load, put, store, vector}
 use Rattle.field.specs.Count.{field, lowest, upto}
-use Rattle.field.specs.Vec.{at, minus, null, origin, over, plus}
+use Rattle.field.specs.Vec.{at, minus, origin, over, plus}
 use Rattle.field.specs.declared.Place.the-variants.{At, Nowhere}
 use Rattle.field.specs.declared.Vec3.{Vec3}
-use Rattle.system.specs.System.{noTerm, ridge, termAt, diagonalOf}
+use Rattle.system.specs.System.{noTerm, termAt, diagonalOf}
 use Rattle.system.specs.Work.{term, termPlace}
 use Rattle.system.specs.declared.CameraTerm.{CameraTerm}
-use Rattle.iterative.specs.Method.{badDiagonal, difference, differenceEntry, preconditioned, preconditionedEntry, searchEntry, searchField, searchStep, stepped, steppedEntry, steppedField}
+use Rattle.iterative.specs.Method.{badDiagonal, difference, differenceEntry, preconditionedEntry, searchEntry, searchField, searchStep, stepped, steppedEntry}
 use Rattle.iterative.specs.Method.{zeros}
 use Rattle.iterative.specs.Problem.{dotStep, fieldDot, times}
 use Rattle.iterative.specs.Reduced.{rightEntry, rightOf}

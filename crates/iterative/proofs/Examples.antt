@@ -6,7 +6,7 @@ use Prim.Native.Nat.{ℕ}
 use lib.Ieee.{binary64, ofBits}
 use Rattle.sqrt.specs.Root.{root}
 use Rattle.field.specs.declared.Vec3.{Vec3}
-use Rattle.field.specs.Vec.{null, origin, scale}
+use Rattle.field.specs.Vec.{null, origin}
 use Rattle.system.specs.System.{one, diagonalOf}
 use Rattle.iterative.specs.Problem.{times, dotStep, fieldDot, mostRounds}
 use Rattle.iterative.specs.Method.{State, accepted, refused, boundOf, allowedOf, startsActive, staysActive, badCurvature, badProduct, badResidual, quotient, stepped, searchStep}

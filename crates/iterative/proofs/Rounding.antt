@@ -1,5 +1,5 @@
 -- One round: what its parts leave in the buffer is the method's, from what the calls ensure. Assumes nothing.
-use mathlib.Core.Path.{ap, refl, sym, _∙_, _≡_}
+use mathlib.Core.Path.{ap, sym, _∙_, _≡_}
 use mathlib.Core.Logic.{inl, inr}
 use mathlib.Core.List.{List}
 use mathlib.Core.Bool.{Bool, false, true}
@@ -15,21 +15,21 @@ use Rattle.field.specs.declared.Vec3.{Vec3}
 use Rattle.network.specs.Network.{Links, links}
 use Rattle.network.specs.declared.Shape.{Shape}
 use Rattle.system.specs.System.{diagonalOf}
-use Rattle.system.specs.Work.{appliedAt, matrixAt, positionsAt, preconditionedAt, residualAt, rightAt, searchAt, term, weightsAt}
+use Rattle.system.specs.Work.{appliedAt, matrixAt, positionsAt, preconditionedAt, residualAt, searchAt, term}
 use Rattle.system.specs.inner.Formed.{weightsIn}
 use Rattle.operator.proofs.OperatorLaws.{by-length}
 use Rattle.operator.specs.Operator.{reducedBy}
 use Rattle.operator.specs.inner.Applied.{reducedIn}
 use Rattle.iterative.proofs.Kept.{kept-same, kept-store, kept-then, other-field, own-field, problem-kept}
-use Rattle.iterative.specs.Method.{Run, State, any, badCurvature, badProduct, boundOf, component, continued, ended, failed, moved, preconditioned, quotient, redirect, redirected, round, running}
-use Rattle.iterative.specs.Method.{searchField, squareSum, staysActive, step, steppedField}
-use Rattle.iterative.specs.Problem.{Problem, fieldDot}
+use Rattle.iterative.specs.Method.{State, any, badCurvature, badProduct, boundOf, component, moved, preconditioned, quotient, redirected, round}
+use Rattle.iterative.specs.Method.{searchField, squareSum, staysActive, steppedField}
+use Rattle.iterative.specs.Problem.{fieldDot}
 use Rattle.iterative.specs.declared.Active.{Active}
 use Rattle.iterative.specs.declared.Round.{Round}
 use Rattle.iterative.specs.declared.Step.{Step}
 use Rattle.iterative.specs.declared.Step.the-variants.{Ended, Failed, Running}
 use Rattle.iterative.specs.inner.Solver.{FieldStepped, FieldsFit, MovedAlong, Preconditioned, Ran, Rounded, SystemKept}
-use Rattle.iterative.specs.inner.Solver.{continuedBy, problemIn, problemWith, redirectedBy, rightSums, runIn, stateIn}
+use Rattle.iterative.specs.inner.Solver.{continuedBy, problemIn, redirectedBy, rightSums}
 use Rattle.iterative.specs.inner.Solver.{steppedBy}
 
 module _ (s : Shape) (a : ℕ) (l : List Float) (R : FieldsFit s (length l)) where

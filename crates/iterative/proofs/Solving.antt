@@ -3,11 +3,11 @@ use mathlib.Core.Path.{ap, refl, subst, sym, _∙_, _≡_}
 use mathlib.Core.Logic.{inl, inr}
 use mathlib.Core.Bool.{Bool}
 use mathlib.Core.List.{List}
-use Prim.Native.Nat.{ℕ, _+_, _<_, _≤_}
+use Prim.Native.Nat.{ℕ, _≤_}
 use native.Mathlib.Omega.{arith}
 use lib.ListN.{length}
 use lib.Ieee.{Float}
-use Rattle.field.proofs.Counting.{found, length-field}
+use Rattle.field.proofs.Counting.{length-field}
 use Rattle.field.specs.Buffer.{load, store, vector}
 use Rattle.field.specs.Count.{lowest}
 use Rattle.field.specs.declared.Place.{Place}
@@ -16,19 +16,17 @@ use Rattle.field.specs.declared.Vec3.{Vec3}
 use Rattle.network.specs.Network.{Links, Network, links, linksOf}
 use Rattle.network.specs.inner.Sound.{LinksSound}
 use Rattle.network.specs.declared.Shape.{Shape}
-use Rattle.system.specs.System.{Weights, anchor, terms, weightsOf, diagonalOf}
-use Rattle.system.specs.Work.{appliedAt, matrixAt, positionsAt, residualAt, rightAt, searchAt, term, termPlace}
-use Rattle.system.specs.declared.CameraTerm.{CameraTerm}
+use Rattle.system.specs.System.{anchor, terms, weightsOf, diagonalOf}
+use Rattle.system.specs.Work.{appliedAt, matrixAt, positionsAt, residualAt, rightAt, searchAt, term}
 use Rattle.system.specs.inner.Formed.{Segments, positionsIn, weightsIn}
 use Rattle.operator.proofs.Buffered.{reduced-held, weights-kept}
 use Rattle.operator.proofs.OperatorLaws.{by-length}
 use Rattle.operator.specs.Operator.{reducedBy}
 use Rattle.operator.specs.inner.Applied.{reducedIn}
-use Rattle.iterative.proofs.Entries.{diagonal-here}
-use Rattle.iterative.proofs.Kept.{kept-same, kept-store, kept-then, other-field, outside-same, outside-store, outside-then, own-field, placed-same, problem-in-kept}
+use Rattle.iterative.proofs.Kept.{kept-store, kept-then, other-field, outside-same, outside-store, outside-then, own-field, placed-same, problem-in-kept}
 use Rattle.iterative.proofs.Running.{rounds-over}
-use Rattle.iterative.specs.Method.{Ending, Run, State, accepted, acceptedUnless, allowed, allowedOf, badDiagonal, badResidual, boundOf, closed, component, difference, ended, failed, next}
-use Rattle.iterative.specs.Method.{opened, preconditioned, refused, residualOf, rounds, running, solution, squareSum, start, startsActive, tested, zeros}
+use Rattle.iterative.specs.Method.{Run, State, accepted, acceptedUnless, allowed, allowedOf, badDiagonal, badResidual, boundOf, closed, component, difference, ended, failed}
+use Rattle.iterative.specs.Method.{opened, preconditioned, refused, residualOf, rounds, solution, squareSum, start, startsActive, zeros}
 use Rattle.iterative.specs.Problem.{Problem, fieldDot, mostRounds}
 use Rattle.iterative.specs.Reduced.{problem, problemBy, rightOf}
 use Rattle.iterative.specs.declared.Active.{Active}
@@ -37,7 +35,7 @@ use Rattle.iterative.specs.declared.Outcome.the-variants.{Failed as NotP
 use Rattle.iterative.specs.declared.Round.{Round}
 use Rattle.iterative.specs.declared.Step.{Step}
 use Rattle.iterative.specs.declared.Step.the-variants.{Ended, Failed, Running}
-use Rattle.iterative.specs.inner.Solver.{Concluded, FieldsFit, Iterated, IterativeSolved, Opened, PositionsKept, Preconditioned, Settled, Started, SystemKept, Tested, answerOf, begun}
+use Rattle.iterative.specs.inner.Solver.{Concluded, FieldsFit, Iterated, IterativeSolved, Opened, Preconditioned, Settled, Started, Tested, answerOf, begun}
 use Rattle.iterative.specs.inner.Solver.{firstRound, problemIn, rightSums, roundsFrom, runIn, stateIn}
 
 -- ---- the start

@@ -139,7 +139,7 @@ differenceEntry f g i = minus (at f i) (at g i)
 abbrev pub difference : ℕ → List Vec3 → List Vec3 → List Vec3
 difference n f g = field n (differenceEntry f g)
 
--- 9: camera i's diagonal d is not finite. (A finite one is above 0: system's specs/Diagonals.)
+-- 9: camera i's diagonal is not finite. (That of a network, where it is finite, is above 0: system's specs/Diagonals.)
 unfoldable pub badDiagonal : ℕ → (ℕ → Float) → ℕ → Bool
 badDiagonal a d i = not (eqb i a) && not (finite (d i))
 

@@ -12,7 +12,7 @@ use fields::find_bad_diagonal;
 use network::Shape;
 use rounds::iterate;
 ghost use mathlib.Core.Path.{_≡_};
-ghost use Prim.Native.Nat.{_+_, _<_, _≤_};
+ghost use Prim.Native.Nat.{_≤_};
 ghost use lib.ListN.{length};
 ghost use Rattle.field.specs.Count.{lowest};
 ghost use Rattle.field.specs.declared.Place.the-variants.{Nowhere};

@@ -20,7 +20,7 @@ use Rattle.network.specs.declared.Shape.{Shape}
 use Rattle.network.specs.declared.Verdict.{Verdict}
 use Rattle.network.specs.declared.Verdict.the-variants.{Passed}
 use Rattle.network.specs.Network.{Graph, Links, Network, links, rows, firstEnd, secondEnd, spanOf, rowAt}
-use Rattle.network.specs.Refusals.{verdict, test, Section, running, badWeight, badScale, badVector, badRow, badCameras, badCounts, countTests, endsFit, raysFit, vectorsFit, listsFit}
+use Rattle.network.specs.Refusals.{verdict, Section, running, badWeight, badScale, badVector, badRow, badCameras, badCounts, countTests, endsFit, raysFit, vectorsFit, listsFit}
 use Rattle.network.specs.Refusals.{contentFits, networkFits, lengthTests, strays, loops, endTests, listTests, weightTests, rowSections, domainTests, badRoute, routeTests, denseRows}
 use Rattle.network.specs.Refusals.{graphRowTests, networkRowTests, networkTests}
 use Rattle.network.specs.inner.Sound.{ShapeSound, ContentLengths, NetworkLengths, EndsSound, OffsetsSound, ListedSound, LinksSound, GraphSound, NetworkSound}

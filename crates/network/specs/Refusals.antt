@@ -11,7 +11,6 @@ use Rattle.field.specs.declared.Place.the-variants.{At, Nowhere}
 use Rattle.field.specs.Vec.{null, isFinite}
 use Rattle.field.specs.Count.{lowest, orElse, shift}
 use Rattle.field.specs.Buffer.{get, vector}
-use Rattle.network.specs.declared.Refusal.{Refusal}
 use Rattle.network.specs.declared.Verdict.{Verdict}
 use Rattle.network.specs.declared.Verdict.the-variants.{Refused, Passed}
 use Rattle.network.specs.declared.Shape.{Shape}

@@ -1,8 +1,8 @@
 -- How checks, routes and outputs make the solve, and what its accepted answers mean. Assumes nothing.
-use Prim.Native.Nat.{ℕ, _-_, _*_, _≤_, _<_}
+use Prim.Native.Nat.{ℕ, _-_, _*_, _≤_}
 use mathlib.Core.Path.{_≡_, refl, sym, ap, subst, _∙_}
 use mathlib.Core.List.{List, [], _++_}
-use mathlib.Core.Bool.{Bool, cond, true, false, _&&_}
+use mathlib.Core.Bool.{Bool, true, false, _&&_}
 use native.Mathlib.Omega.{arith}
 use lib.Dec.{eqb, leb}
 use lib.ListN.{length, drop, replicate}
@@ -16,16 +16,16 @@ use Rattle.field.proofs.Buffers.{length-load, store-whole, load-flat, vector-la
 use Rattle.network.specs.declared.Refusal.{Refusal}
 use Rattle.network.specs.declared.Verdict.{Verdict}
 use Rattle.network.specs.declared.Verdict.the-variants.{Refused as Stops, Passed}
-use Rattle.network.specs.Network.{Network, links, linksOf, network, rows}
+use Rattle.network.specs.Network.{Network, links, linksOf, network}
 use Rattle.network.specs.declared.Shape.{Shape}
 use Rattle.network.specs.inner.Sound.{LinksSound, NetworkLengths, NetworkSound}
 use Rattle.network.specs.Refusals.{verdict, countTests, lengthTests, networkFits, networkRowTests, networkTests, routeTests, badRoute}
-use Rattle.network.proofs.Verdicts.{both-passed, halts-in, passes-in, stage-passed}
+use Rattle.network.proofs.Verdicts.{both-passed, passes-in, stage-passed}
 use Rattle.network.proofs.Sound.{fit-lengths, lengths-fit, network-fits, route-sound, tests-sound}
-use Rattle.system.specs.System.{anchor, anchorOf, sumsFrom, terms, termsBy, weightsOf}
-use Rattle.system.specs.Work.{matrixAt, term, termPlace, workLength}
+use Rattle.system.specs.System.{anchor, sumsFrom, terms, weightsOf}
+use Rattle.system.specs.Work.{matrixAt, termPlace, workLength}
 use Rattle.system.specs.inner.Formed.{Formed, RowsThere, Segments, positionsIn, weightsIn}
-use Rattle.recover.specs.Recover.{pointsBy, pointsOf}
+use Rattle.recover.specs.Recover.{pointsBy}
 use Rattle.recover.proofs.Points.{points-recovered}
 use Rattle.iterative.specs.Method.{Ending, accepted, refused, solution}
 use Rattle.iterative.specs.Reduced.{problem, problemBy}

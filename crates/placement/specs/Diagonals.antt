@@ -1,5 +1,5 @@
--- Refusal 10 of a solve (document 02, R-8): 1 to 7 here are the solve's own, which tests its buffers' lengths in 3 too, and the diagonals are
--- those that its iterative part is given. system's specs/Diagonals says the same of the network alone. Proved in proofs/Diagonals.
+-- Refusal 10 cannot be met by a solve (document 02, R-8): 1 to 7 here are the solve's own, which tests its buffers' lengths in 3 too, and the
+-- diagonals are those that its iterative part is given. system's specs/Diagonals says the same of the network alone. Proved in proofs/Diagonals.
 use Prim.Native.Nat.{ℕ, _<_}
 use mathlib.Core.Path.{_≡_}
 use mathlib.Core.Bool.{true, not, _||_}

@@ -32,7 +32,7 @@ abbrev pub submission : Network → ℕ → ℕ → ℕ → ℕ → ℕ → Subm
 submission net route limit work cameras points =
     record { net = net; route = route; limit = limit; work = work; cameras = cameras; points = points }
 
--- How a solve ends: rejected by 1 to 8; failed by 9 to 17; or with a report and the cameras.
+-- How a solve ends: rejected by 1 to 8; failed by 9, or 11 to 17; or with a report and the cameras.
 pub data Placement : Type 0 where
   rejected : Refusal → Placement
   failing : Refusal → Placement

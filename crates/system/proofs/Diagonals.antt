@@ -9,7 +9,7 @@ use native.Mathlib.Omega.{arith}
 use borrow.Author.Tests.{ltb-true, ltb-false}
 use lib.Dec.{T}
 use lib.ListN.{getD, set, List·getD-eq-default}
-use lib.Ieee.{Float, binary64, add, sub, mul, div, lt, le, fits, ofBits}
+use lib.Ieee.{Float, binary64, add, mul, lt, le, fits, ofBits}
 use lib.Ieee.Fits.{mul-fits}
 use lib.Ieee.Scale.{finite}
 use Rattle.double.specs.Sums.{nonneg}
@@ -23,7 +23,7 @@ use Rattle.network.specs.Network.{Network, rows, firstEnd, secondEnd, isBearing
 use Rattle.network.specs.inner.Sound.{NetworkSound}
 use Rattle.network.proofs.Sound.{tests-sound, listed-under, weight-domain, scale-domain, row-domain, span-in}
 use Rattle.system.specs.declared.CameraTerm.{CameraTerm}
-use Rattle.system.specs.System.{Sums, tiny, one, ridge, effectiveIn, effective, weightSum, pointWeight, noTerm, reducedWeight, sees, departs, arrives, termAt, addBearing, addDirection}
+use Rattle.system.specs.System.{Sums, tiny, ridge, effectiveIn, effective, weightSum, pointWeight, noTerm, reducedWeight, sees, departs, arrives, termAt, addBearing, addDirection}
 use Rattle.system.specs.System.{assembleRow, assembleRows, termsBy, terms, diagonalOf, sumsFrom, sumsOf}
 use Rattle.system.specs.Diagonals.{DiagonalsAboveZero}
 

@@ -7,7 +7,7 @@ use native.Mathlib.Nat.{add-zero, zero-add, mul-zero, mul-suc}
 use native.Mathlib.Numerals.{towards-suc}
 use native.Mathlib.Omega.{arith}
 use lib.ListN.{length, getD, set, drop, replicate, replicate-append-replicate}
-use lib.Ieee.{Float, nan, binary64, add, sub, mul, div, lt}
+use lib.Ieee.{Float, nan, binary64, add, lt}
 use Rattle.field.specs.declared.Vec3.{Vec3}
 use Rattle.field.specs.Vec.{null, plus, minus, scale}
 use Rattle.field.specs.Count.{field}

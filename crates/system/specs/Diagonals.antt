@@ -1,6 +1,8 @@
--- No diagonal meets refusal 10 (document 02, R-8). 10 was: a camera's diagonal + 1e-6 is finite and not above 0. Support can read this page as:
--- whatever network is sent, if 1 to 7 refuse nothing, then every camera's diagonal + 1e-6 is above 0, or it overflowed to an infinity or a NaN,
--- which is 9. No solve tests 10 any more, and no network that it takes could have met it. Proved in proofs/Diagonals.
+-- Refusal 10 cannot be met (document 02, R-8).
+--
+-- For support: 10 was 'iterative: a camera's diagonal + 1e-6 is finite and not above 0'. No network gets there. If 1 to 7 refuse nothing, then for
+-- every camera the diagonal + 1e-6 is above 0, or it has overflowed to an infinity or a NaN, which is 9. This holds whatever the weights and scales
+-- are, and whatever overflows on the way. Proved: `diagonals-above-zero` of proofs/Diagonals.
 use Prim.Native.Nat.{ℕ, _<_}
 use mathlib.Core.Path.{_≡_}
 use mathlib.Core.Bool.{true, not, _||_}

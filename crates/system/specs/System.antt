@@ -1,6 +1,6 @@
 -- The system of the linear step (document 01, 'Arithmetic of the step'), of the network alone.
 -- Sums start at +0.0 and go in list or row order; each operation rounds once.
-use Prim.Native.Nat.{ℕ, _+_, _-_, _*_}
+use Prim.Native.Nat.{ℕ, _*_}
 use mathlib.Core.List.{List}
 use mathlib.Core.Bool.{Bool, cond, _&&_}
 use lib.ListN.{getD, set}

@@ -6,7 +6,6 @@ use Prim.Native.Nat.{ℕ, _+_, _*_, _≤_}
 use lib.Dec.{eqb}
 use lib.ListN.{drop, length}
 use lib.Ieee.{Float, add, binary64, sub}
-use lib.Ieee.Scale.{finite}
 use Rattle.field.specs.Buffer.{get, load, put as putAt, store, vector}
 use Rattle.field.specs.Count.{upto}
 use Rattle.field.specs.Vec.{origin, over}
@@ -23,7 +22,7 @@ use Rattle.iterative.specs.Method.{Ending, Run, State, accepted, allowed
 use Rattle.iterative.specs.Method.{failed, flag, moved, next, preconditioned, redirect, refused, residualOf, round, running, solution}
 use Rattle.iterative.specs.Method.{startsActive, step, stepped, steppedField, zeros}
 use Rattle.iterative.specs.Problem.{Problem, dotStep, fieldDot, mostRounds}
-use Rattle.iterative.specs.Reduced.{problemBy, rightOf}
+use Rattle.iterative.specs.Reduced.{rightOf}
 use Rattle.iterative.specs.declared.Active.{Active}
 use Rattle.iterative.specs.declared.Outcome.{Outcome}
 use Rattle.iterative.specs.declared.Outcome.the-variants.{Failed as NotPlaced, Placed}
