@@ -23,6 +23,7 @@ use Rattle.iterative.specs.Reduced.{problem}
 use Rattle.iterative.specs.Accepted.{Accepted as Meaning}
 use Rattle.placement.specs.declared.Answer.{Answer}
 use Rattle.placement.specs.declared.Answer.the-variants.{Accepted}
+use Rattle.placement.specs.declared.Report.{Report}
 use Rattle.placement.specs.Routes.{submission, buffersFit, submissionTests, submissionVerdict, Placement, rejected, failing, placed, placement, report}
 use Rattle.placement.specs.Solved.{answerOf, camerasAfter, pointsAfter, Solved as SolveCall}
 use Rattle.lists.specs.inner.Sorted.{Rows}
@@ -44,7 +45,7 @@ dense-rows n = go (ltb 48 (n - 1)) refl
     go true e = omega arith
     go false e = ltb-false 48 (n - 1) e
 
-work-enough : (s : Shape) → Small s → workLength s 3 48 ≤ 6980
+work-enough : (s : Shape) → Small s → workLength s 3 48 ≤ 7044
 unfolding workLength
 work-enough s h =
     let d = dense-rows (s .cameras) in
@@ -53,19 +54,19 @@ work-enough s h =
 
 -- the text of an answer, from what the outputs hold, is that of how the solve ended
 answer-lines : (x : Placement) (net : Network) (k : ℕ) (cs ps : List Float) →
-    textOf (net .shape) k (answerOf x) (camerasAfter x cs) (pointsAfter net x ps) ≡ lines net k x
+    textOf (net .shape) k (answerOf net x) (camerasAfter x cs) (pointsAfter net x ps) ≡ lines net k x
 answer-lines (rejected r) net k cs ps = refl
 answer-lines (failing r) net k cs ps = refl
-answer-lines (placed p cameras) net k cs ps = rw (vectors-flat cameras, vectors-flat (pointsOf net cameras))
+answer-lines (placed route rounds cameras) net k cs ps = rw (vectors-flat cameras, vectors-flat (pointsOf net cameras))
 
 -- the cameras that the output holds are those that are printed
-cameras-meant : (x : Placement) (net : Network) (parts : ℕ) (cs cs' : List Float) → cs' ≡ camerasAfter x cs → length cs' ≡ 3 * net .shape .cameras → (a k : ℕ) →
-    answerOf x ≡ Accepted (report a 2 k) → (a ≡ problem net .anchor) × Meaning (problem net) (load vector cs' 0 (net .shape .cameras)) k →
-    CamerasMeant net parts a k (lines net parts x)
-cameras-meant (rejected r) net parts cs cs' f h a k e m = absurd (let z : _≡_ {A = ℕ} 0 1 = cc in omega arith)
-cameras-meant (failing r) net parts cs cs' f h a k e m = absurd (let z : _≡_ {A = ℕ} 0 1 = cc in omega arith)
-cameras-meant (placed p cameras) net parts cs cs' f h a k e m =
-    let q : p ≡ report a 2 k = cc in
+cameras-meant : (x : Placement) (net : Network) (parts : ℕ) (cs cs' : List Float) → cs' ≡ camerasAfter x cs → length cs' ≡ 3 * net .shape .cameras → (p : Report) →
+    answerOf net x ≡ Accepted p → (p .anchor ≡ problem net .anchor) × Meaning (problem net) (load vector cs' 0 (net .shape .cameras)) (p .rounds) →
+    CamerasMeant net parts p (lines net parts x)
+cameras-meant (rejected r) net parts cs cs' f h p e m = absurd (let z : _≡_ {A = ℕ} 0 1 = cc in omega arith)
+cameras-meant (failing r) net parts cs cs' f h p e m = absurd (let z : _≡_ {A = ℕ} 0 1 = cc in omega arith)
+cameras-meant (placed route rounds cameras) net parts cs cs' f h p e m =
+    let q : report net route rounds ≡ p = cc in
     let n : length cameras ≡ net .shape .cameras = omega (arith, ap length f, length-flat vector vector-lawful cameras) in
     let c : load vector cs' 0 (net .shape .cameras) ≡ cameras = rw f (load-flat vector vector-lawful cameras (net .shape .cameras) n) in
     record { cameras = cameras; printed = rw q; anchor = m .0; meaning = rw c at (m .1) }
@@ -118,7 +119,7 @@ module _ (s : Shape) (es : List ℕ) (rs ws ss ps : List Float) (C : ContentSoun
   solved offsets listed k answer a a' cs cs' qs qs' L lent P B kept =
       let call = rw (L .starts, L .rows) at lent in
       let e = solve-passed a cs qs B in
-      let answers : answer ≡ answerOf (ending net) = call .answer ∙ ap answerOf e in
+      let answers : answer ≡ answerOf net (ending net) = call .answer ∙ ap (answerOf net) e in
       let f : cs' ≡ camerasAfter (ending net) cs = call .camerasOut ∙ ap (λ t. camerasAfter t cs) e in
       let g : qs' ≡ pointsAfter net (ending net) qs = call .pointsOut ∙ ap (λ t. pointsAfter net t qs) e in
       let text : textOf s k answer cs' qs' ≡ lines net (distinct (P .labels)) (ending net) =
@@ -128,7 +129,7 @@ module _ (s : Shape) (es : List ℕ) (rs ws ss ps : List Float) (C : ContentSoun
         labelled = P .labelled;
         answered = answers;
         printed = text;
-        meaning = λ b j q. rw text (cameras-meant (ending net) net (distinct (P .labels)) cs cs' f (kept ∙ B .cameras) b j (sym answers ∙ q) (call .meaning b j q));
+        meaning = λ p q w. rw text (cameras-meant (ending net) net (distinct (P .labels)) cs cs' f (kept ∙ B .cameras) p (sym answers ∙ q) (call .meaning p q w));
       }
 
 -- what was solved is printed

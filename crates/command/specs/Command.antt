@@ -70,33 +70,33 @@ networkOf c =
 abbrev pub ending : Network → Placement
 ending net = routed net 3 48
 
--- 'Lines: counts; number of parts; the report; each camera, then each point'
+-- 'Lines: counts; number of parts; the report; each camera, then each point', with R-11's `few K` after the report line
 abbrev pub placedLines : Shape → (parts : ℕ) → Report → (cameras points : List Vec3) → List ℕ
 placedLines s parts p cameras points =
-    placedText (s .cameras) (s .points) (s .bearings) (s .directions) parts (p .anchor) (p .route) (p .rounds) cameras points
+    placedText (s .cameras) (s .points) (s .bearings) (s .directions) parts (p .anchor) (p .route) (p .rounds) (p .few) cameras points
 
 -- 'A refusal prints only' its line.
 abbrev pub lines : Network → (parts : ℕ) → Placement → List ℕ
 lines net parts (rejected r) = refusedLine r
 lines net parts (failing r) = refusedLine r
-lines net parts (placed p cameras) = placedLines (net .shape) parts p cameras (pointsOf net cameras)
+lines net parts (placed route rounds cameras) = placedLines (net .shape) parts (report net route rounds) cameras (pointsOf net cameras)
 
--- Demand 3, of what is printed. The text has the bits of these cameras, and of them, the anchor a and the k rounds that it reports all of the demand
+-- Demand 3, of what is printed. The text has the bits of these cameras, and of them, the anchor and the rounds that the report p has all of the demand
 -- is true: `Meaning` has a field for each clause. (`problem` is the system that the network forms.)
-pub record CamerasMeant (net : Network) (parts a k : ℕ) (text : List ℕ) : Type 0 where
+pub record CamerasMeant (net : Network) (parts : ℕ) (p : Report) (text : List ℕ) : Type 0 where
   pub cameras : List Vec3
-  pub printed : text ≡ placedLines (net .shape) parts (report a 2 k) cameras (pointsOf net cameras)
-  pub anchor : a ≡ problem net .anchor
-  pub meaning : Meaning (problem net) cameras k
+  pub printed : text ≡ placedLines (net .shape) parts p cameras (pointsOf net cameras)
+  pub anchor : p .anchor ≡ problem net .anchor
+  pub meaning : Meaning (problem net) cameras (p .rounds)
 
 -- An image that no test refuses, with the content c: the answer and the text. There is one list of labels: `labelled-unique` of crates/graph.
 pub record ImageSolved (c : Content) (answer : Answer) (text : List ℕ) : Type 0 where
   pub labels : List ℕ
   pub labelled : Labelled (graphOf c) labels
-  pub answered : answer ≡ answerOf (ending (networkOf c))
+  pub answered : answer ≡ answerOf (networkOf c) (ending (networkOf c))
   pub printed : text ≡ lines (networkOf c) (distinct labels) (ending (networkOf c))
   -- where the iterative part answered (`anchor A route 2 rounds K`)
-  pub meaning : (a k : ℕ) → answer ≡ Accepted (report a 2 k) → CamerasMeant (networkOf c) (distinct labels) a k text
+  pub meaning : (p : Report) → answer ≡ Accepted p → p .route ≡ 2 → CamerasMeant (networkOf c) (distinct labels) p text
 
 -- ---- the whole program
 

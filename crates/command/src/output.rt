@@ -47,6 +47,7 @@ fn accept(
         anchor: report.anchor,
         route: report.route,
         rounds: report.rounds,
+        few: report.few,
     };
     let length = put_placed(counts, parts, line, cameras, points, text);
     Printed {

@@ -94,7 +94,7 @@ fn place(
     print(s, solved.parts, answer, cameras, placed, text)
 }
 
-// Has the outputs of 64 cameras and 680 points, and a work buffer: 23 * 64 + 4 * 680 + 340 + 48 * 48 + 3 * 48 doubles.
+// Has the outputs of 64 cameras and 680 points, and a work buffer: 24 * 64 + 4 * 680 + 340 + 48 * 48 + 3 * 48 doubles.
 pub fn place_listed(
     s: Shape,
     ends: &[usize],
@@ -113,7 +113,7 @@ pub fn place_listed(
         (ImageSolved (content s (now (ends .entry)) (now (rays .entry)) (now (weights .entry)) (now (scales .entry)) (now (points .entry))))
         r (now (text .entry)) (now (text .exit)) ⌝ }
 {
-    let mut work = [0.0f64; 6980];
+    let mut work = [0.0f64; 7044];
     let mut cameras = [0.0f64; 192];
     let mut placed = [0.0f64; 2040];
     let camera_numbers = 3 * s.cameras;

@@ -40,7 +40,7 @@ below-past true true true a b c p q = lt-ltb c b (omega (arith, ltb-true c a p, 
 
 -- ---- one scale
 
-ltb-scale : (a b k : ℕ) → 0 < k → ltb (a * k) (b * k) ≡ ltb a b
+pub ltb-scale : (a b k : ℕ) → 0 < k → ltb (a * k) (b * k) ≡ ltb a b
 ltb-scale a b k h = go (ltb a b) refl
   where
     go : (q : Bool) → ltb a b ≡ q → ltb (a * k) (b * k) ≡ q

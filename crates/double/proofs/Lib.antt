@@ -5,4 +5,5 @@ pub mod Grid
 pub mod Order
 pub mod Less
 pub mod Below
+pub mod Whole
 pub mod Sorts

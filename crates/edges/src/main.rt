@@ -114,6 +114,8 @@ fn answer(name: &[u8], given: placement::Answer) {
             number(p.route);
             write_all(1, b" rounds");
             number(p.rounds);
+            write_all(1, b" few");
+            number(p.few);
         }
     }
     write_all(1, b"\n");
@@ -132,7 +134,7 @@ fn position(name: &[u8], x: f64, y: f64, z: f64) {
 
 // n=1, m=1, B=1, E=0: camera 0 sees point 0 along (0,0,1), old point (5,5,5). Route 3 with limit 48.
 fn one_camera(name: &[u8], weight: f64, scale: f64) {
-    let mut work = [7.0; 28];
+    let mut work = [7.0; 29];
     let mut cameras = [7.0; 3];
     let mut placed = [7.0; 3];
     let given = placement::solve(
@@ -157,7 +159,7 @@ fn one_camera(name: &[u8], weight: f64, scale: f64) {
 
 // n=2, one direction, weight 1e300, scale 1e10. Limit 1.
 fn two_cameras(name: &[u8], route: usize) {
-    let mut work = [7.0; 51];
+    let mut work = [7.0; 53];
     let mut cameras = [7.0; 6];
     let mut placed = [7.0; 0];
     let given = placement::solve(
@@ -180,7 +182,7 @@ fn two_cameras(name: &[u8], route: usize) {
 
 // n=3, cameras 1 and 2 see point 0 with weight 1e200, camera 0 sees point 1 with 1e201, scales 1. Route 1.
 fn three_cameras(name: &[u8], limit: usize) {
-    let mut work = [7.0; 90];
+    let mut work = [7.0; 93];
     let mut cameras = [7.0; 9];
     let mut placed = [7.0; 6];
     let given = placement::solve(

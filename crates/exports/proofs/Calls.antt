@@ -99,7 +99,7 @@ scales-done h f call p q c = one-done _ f (rw h at call) p q c
 
 pub solve-done : {route limit code t u v : ℕ} {s s' : Shape} {ends offsets listed report report' : List ℕ}
     {rays weights scales positions work work' cameras cameras' points points' : List Float} {answer : Answer} →
-    s ≡ s' → length report ≡ 3 →
+    s ≡ s' → length report ≡ 4 →
     Solved (submission (network s ends rays weights scales positions offsets listed) route limit t u v) answer
     work work' cameras cameras' points points' →
     report' ≡ answerReport answer report → code ≡ answerCode answer →

@@ -21,21 +21,18 @@ one-stored [] h = absurd (omega arith)
 one-stored (_ ∷ []) h = refl
 one-stored (_ ∷ _ ∷ _) h = absurd (omega arith)
 
-three-stored : {x y z : ℕ} (l : List ℕ) → length l ≡ 3 → set (set (set l 0 x) 1 y) 2 z ≡ x ∷ y ∷ z ∷ []
-three-stored (_ ∷ _ ∷ l) h = rw (one-stored l (omega arith))
-three-stored (_ ∷ []) h = absurd (omega arith)
-three-stored [] h = absurd (omega arith)
-
 four-stored : {x y z w : ℕ} (l : List ℕ) → length l ≡ 4 → set (set (set (set l 0 x) 1 y) 2 z) 3 w ≡ x ∷ y ∷ z ∷ w ∷ []
-four-stored (_ ∷ l) h = rw (three-stored l (omega arith))
+four-stored (_ ∷ _ ∷ _ ∷ l) h = rw (one-stored l (omega arith))
+four-stored (_ ∷ _ ∷ []) h = absurd (omega arith)
+four-stored (_ ∷ []) h = absurd (omega arith)
 four-stored [] h = absurd (omega arith)
 
 pub answer-refused : {a : Answer} {r : Refusal} (report : List ℕ) → a ≡ solving.Refused r → set report 0 (r .place) ≡ answerReport a report
 answer-refused report h = rw h
 
-pub answer-accepted : {a : Answer} {p : Report} (report : List ℕ) → length report ≡ 3 → a ≡ solving.Accepted p →
-    set (set (set report 0 (p .anchor)) 1 (p .route)) 2 (p .rounds) ≡ answerReport a report
-answer-accepted report k h = three-stored report k ∙ rw h
+pub answer-accepted : {a : Answer} {p : Report} (report : List ℕ) → length report ≡ 4 → a ≡ solving.Accepted p →
+    set (set (set (set report 0 (p .anchor)) 1 (p .route)) 2 (p .rounds)) 3 (p .few) ≡ answerReport a report
+answer-accepted report k h = four-stored report k ∙ rw h
 
 pub counted-refused : {a : Counted} {r : Refusal} (report : List ℕ) → a ≡ counted.Refused r → set report 0 (r .place) ≡ countedReport a report
 counted-refused report h = rw h

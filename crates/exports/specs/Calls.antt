@@ -76,7 +76,7 @@ ScalesCall i code out out' =
 
 abbrev pub SolveCall : (i : Submission) (code : ℕ) (work work' cameras cameras' points points' : List Float) (report report' : List ℕ) → Type 0
 SolveCall i code work work' cameras cameras' points points' =
-    Reporting 3 (countVerdict (i .net .shape)) ((work' ≡ work) × (cameras' ≡ cameras) × (points' ≡ points))
+    Reporting 4 (countVerdict (i .net .shape)) ((work' ≡ work) × (cameras' ≡ cameras) × (points' ≡ points))
     (λ a. Solved i a work work' cameras cameras' points points') answerCode answerReport code
 
 -- ---- images: 20 to 22, and then 1 and 2, come before 3

@@ -72,7 +72,7 @@ abbrev pub writtenReport : Written → ℕ
 writtenReport (written.Refused r) = r .place
 writtenReport (written.Bytes k) = k
 
--- ---- a solve's report of three numbers: anchor, route, rounds (document 01: 'An accepted solve reports ..')
+-- ---- a solve's report of four numbers: anchor, route, rounds (document 01: 'An accepted solve reports ..'), few (document 02, R-11)
 
 abbrev pub answerCode : Answer → ℕ
 answerCode (solving.Refused r) = r .number
@@ -80,7 +80,7 @@ answerCode (solving.Accepted p) = 0
 
 abbrev pub answerReport : Answer → List ℕ → List ℕ
 answerReport (solving.Refused r) report = set report 0 (r .place)
-answerReport (solving.Accepted p) report = p .anchor ∷ p .route ∷ p .rounds ∷ []
+answerReport (solving.Accepted p) report = p .anchor ∷ p .route ∷ p .rounds ∷ p .few ∷ []
 
 -- ---- an image's report of four numbers: n, m, B, E
 

@@ -138,9 +138,9 @@ pub(crate) fn answer_code(a: Answer) -> usize
     }
 }
 
-// The place of a refusal, or anchor, route and rounds, in a report of three numbers.
+// The place of a refusal, or anchor, route, rounds and few, in a report of four numbers.
 pub(crate) fn put_answer(report: &mut [usize], a: Answer)
-    requires { ⌜ length (now report) ≡ 3 ⌝ }
+    requires { ⌜ length (now report) ≡ 4 ⌝ }
     ensures { λ _. ⌜ now (report .exit) ≡ answerReport a (now (report .entry)) ⌝ }
 {
     match a {
@@ -151,6 +151,7 @@ pub(crate) fn put_answer(report: &mut [usize], a: Answer)
             report[0] = p.anchor;
             report[1] = p.route;
             report[2] = p.rounds;
+            report[3] = p.few;
         }
     }
 }

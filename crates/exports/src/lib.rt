@@ -221,7 +221,7 @@ pub extern "C" fn vobzeile_scales<'a>(
     verdict_code(answer)
 }
 
-// The solve: reports anchor, route and rounds.
+// The solve: reports anchor, route, rounds and few.
 #[no_mangle]
 pub extern "C" fn vobzeile_solve(
     n: usize,
@@ -250,7 +250,7 @@ pub extern "C" fn vobzeile_solve(
         (now (report .entry)) (now (report .exit)) ⌝ }
 {
     let s = shape(n, m, b, e);
-    if report.len() != 3 {
+    if report.len() != 4 {
         return unreported(report, check_counts(s));
     }
     let answer = placement::solve(

@@ -1,4 +1,4 @@
--- Counting: steps taken in order, lists made place by place, and the lowest place with a property.
+-- Counting: steps taken in order, lists made place by place, the lowest place with a property, and how many have one.
 -- (Document 01, 'Arithmetic of the step': 'sums start at +0.0 and go in row order'; 'Refused calls': 'each at its lowest place'.)
 use Prim.Native.Nat.{ℕ, zero, suc, _+_}
 use mathlib.Core.List.{List, [], _∷_, _++_}
@@ -30,3 +30,16 @@ lowest p (suc k) = orElse (lowest p k) (cond (p k) (At k) Nowhere)
 abbrev pub shift : ℕ → Place → Place
 shift n (At i) = At (n + i)
 shift n Nowhere = Nowhere
+
+-- g 0 + g 1 + .. + g (k - 1), in whole numbers
+unfoldable pub sumBelow : (ℕ → ℕ) → ℕ → ℕ
+sumBelow g zero = 0
+sumBelow g (suc k) = sumBelow g k + g k
+
+-- 1 where it is true, else 0
+abbrev pub indicator : Bool → ℕ
+indicator b = cond b 1 0
+
+-- how many of 0, .. k - 1 have the property p
+unfoldable pub countBelow : (ℕ → Bool) → ℕ → ℕ
+countBelow p k = sumBelow (λ i. indicator (p i)) k

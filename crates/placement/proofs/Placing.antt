@@ -23,7 +23,10 @@ use Rattle.network.specs.Refusals.{verdict, countTests, lengthTests, networkFit
 use Rattle.network.proofs.Verdicts.{both-passed, passes-in, stage-passed}
 use Rattle.network.proofs.Sound.{fit-lengths, lengths-fit, network-fits, route-sound, tests-sound}
 use Rattle.system.specs.System.{anchor, sumsFrom, terms, weightsOf}
-use Rattle.system.specs.Work.{matrixAt, termPlace, workLength}
+use Rattle.system.specs.Counts.{few, fewIn}
+use Rattle.system.specs.Work.{matrixAt, term, termPlace, workLength}
+use Rattle.system.specs.declared.CameraTerm.{CameraTerm}
+use Rattle.system.proofs.Counts.{few-counted}
 use Rattle.system.specs.inner.Formed.{Formed, RowsThere, Segments, positionsIn, weightsIn}
 use Rattle.recover.specs.Recover.{pointsBy}
 use Rattle.recover.proofs.Points.{points-recovered}
@@ -38,10 +41,12 @@ use Rattle.dense.proofs.Solving.{dense-held}
 use Rattle.placement.specs.declared.Answer.{Answer}
 use Rattle.placement.specs.declared.Answer.the-variants.{Refused, Accepted}
 use Rattle.placement.specs.declared.Report.{Report}
-use Rattle.placement.specs.Routes.{Submission, Placement, rejected, failing, placed, report, failingAt, submission, denseOr, byIterative, fallBack, routedBy, routed, buffersFit}
+use Rattle.placement.specs.declared.routes.Ended.{Ended}
+use Rattle.placement.specs.declared.routes.Ended.the-variants.{Failed, Placed}
+use Rattle.placement.specs.Routes.{Submission, Placement, rejected, failing, placed, failingAt, submission, denseOr, byIterative, fallBack, routedBy, routed, buffersFit}
 use Rattle.placement.specs.Routes.{submissionTests, submissionVerdict, checked, placement}
 use Rattle.placement.specs.Solved.{answerOf, camerasAfter, pointsAfter, workAfter, Solved}
-use Rattle.placement.specs.inner.Routing.{Checked, OutputsFilled, Ran, RouteReady, Routed, denseIn, iterativeIn, outcome}
+use Rattle.placement.specs.inner.Routing.{Checked, OutputsFilled, Ran, RouteReady, Routed, denseIn, endedWith, iterativeIn, outcome, reported}
 use Rattle.placement.proofs.Routing.{route-cases, surplus-more, work-room}
 
 -- ---- the checks
@@ -104,6 +109,23 @@ submission-sound i v h p =
       points = eqb-true _ _ (k .0);
     }
 
+-- ---- the answer of a route
+
+told : (a k : ℕ) (o : Ended) (cs : List Vec3) → outcome (reported a k o) cs ≡ endedWith o cs
+told a k (Failed r) cs = refl
+told a k (Placed route rounds) cs = refl
+
+answer-told : (net : Network) (o : Ended) (cs : List Vec3) → reported (anchor net) (few net) o ≡ answerOf net (endedWith o cs)
+answer-told net (Failed r) cs = refl
+answer-told net (Placed route rounds) cs = refl
+
+pub answered-failed : {o : Ended} {q : Refusal} (a k : ℕ) → o ≡ Failed q → Refused q ≡ reported a k o
+answered-failed a k e = rw e
+
+pub answered-placed : {o : Ended} {route rounds : ℕ} (a f k : ℕ) → o ≡ Placed route rounds → f ≡ k →
+    Accepted (record { anchor = a; route = route; rounds = rounds; few = f }) ≡ reported a k o
+answered-placed a f k e h = rw (e, h)
+
 -- ---- the system is formed and the route taken
 
 module _ (s : Shape) (ends : List ℕ) (rays weights scales points : List Float) (offsets listed : List ℕ) (route limit size : ℕ)
@@ -127,20 +149,29 @@ module _ (s : Shape) (ends : List ℕ) (rays weights scales points : List Float)
   pub formed-ready : Checked (network s ends rays weights scales points offsets listed) route limit (length l) → RouteReady s a route limit (length l1)
   formed-ready C = record { anchor = F .below; legal = C .legal; room = rw (F .size) (C .room) }
 
-  pub run-done : (l2 : List Float) (r : Answer) → Checked (network s ends rays weights scales points offsets listed) route limit (length l) →
-      Routed s (workLength s route limit) (routedBy a (dimension s) route limit (iterativeIn (links s ends offsets listed) a l1) (denseIn (links s ends offsets listed) a l1)) l1 l2 r →
+  pub formed-room : Checked (network s ends rays weights scales points offsets listed) route limit (length l) → (x : Placement) (l2 : List Float) (e : Ended) →
+      Routed s (workLength s route limit) x l1 l2 e → matrixAt s ≤ length l2
+  formed-room C x l2 e R = rw (R .size ∙ F .size) (checked-room s ends rays weights scales points offsets listed route limit (length l) C)
+
+  pub run-done : (l2 : List Float) (e : Ended) (r : Answer) → Checked (network s ends rays weights scales points offsets listed) route limit (length l) →
+      Routed s (workLength s route limit) (routedBy (dimension s) route limit (iterativeIn (links s ends offsets listed) a l1) (denseIn (links s ends offsets listed) a l1)) l1 l2 e →
+      r ≡ reported a (fewIn (load term l2 0 (s .cameras)) (s .cameras)) e →
       Ran (network s ends rays weights scales points offsets listed) route limit l l2 r
   unfolding routed
-  run-done l2 r C R =
+  run-done l2 o r C R h =
       let net = network s ends rays weights scales points offsets listed in
       let K : LinksSound (linksOf net) = C .sound .links in
       let S : Segments s (weightsOf net) (terms net) l1 = F .segments in
       let e : a ≡ anchor net = F .anchor in
       let x : iterativeIn (linksOf net) a l1 ≡ solution (problem net) = ap solution (problem-held net l1 a K S e) in
       let y : denseIn (linksOf net) a l1 ≡ denseSolution net = dense-held net l1 a K S e in
+      let S2 : Segments s (weightsOf net) (terms net) l2 = R .segments (weightsOf net) (terms net) S in
+      let f : fewIn (load term l2 0 (s .cameras)) (s .cameras) ≡ few net = ap (λ (ts : List CameraTerm). fewIn ts (s .cameras)) (S2 .terms) ∙ few-counted net (C .sound) in
+      let z : endedWith o (positionsIn s l2) ≡ routed net route limit = R .answer ∙ rw (x, y) in
       record {
-        answer = R .answer ∙ rw (x, y, e);
-        segments = R .segments (weightsOf net) (terms net) S;
+        ended = ap (λ (q : Answer). outcome q (positionsIn s l2)) h ∙ told a _ o (positionsIn s l2) ∙ z;
+        answer = h ∙ rw (e, f) (answer-told net o (positionsIn s l2)) ∙ ap (answerOf net) z;
+        segments = S2;
         surplus = R .surplus ∙ surplus-more _ _ l l1 (F .surplus) (work-room s route limit);
         size = R .size ∙ F .size;
       }
@@ -162,10 +193,10 @@ module _ (s : Shape) (ends : List ℕ) (rays weights scales points : List Float)
       OutputsFilled (network s ends rays weights scales points offsets listed) route limit (Accepted p) l l1 cameras cameras' placed0 placed'
   placed-accepted p cameras' placed' e c q =
       let net = network s ends rays weights scales points offsets listed in
-      let x : placed p (positionsIn s l1) ≡ routed net route limit = ap (λ (y : Answer). outcome y (positionsIn s l1)) (sym e) ∙ R .answer in
+      let x : placed (p .route) (p .rounds) (positionsIn s l1) ≡ routed net route limit = ap (λ (y : Answer). outcome y (positionsIn s l1)) (sym e) ∙ R .ended in
       let z = points-recovered s ends rays weights scales points offsets listed (terms net) l1 (positionsIn s l1) placed' (C .sound .links) (R .segments) q in
       record {
-        answer = ap answerOf x;
+        answer = sym e ∙ R .answer;
         camerasOut = c ∙ ap (λ (y : Placement). camerasAfter y cameras) x;
         pointsOut = z ∙ ap (λ (y : Placement). pointsAfter net y placed0) x;
         surplus = R .surplus;
@@ -175,9 +206,9 @@ module _ (s : Shape) (ends : List ℕ) (rays weights scales points : List Float)
   pub placed-refused : (q : Refusal) → r ≡ Refused q → OutputsFilled (network s ends rays weights scales points offsets listed) route limit r l l1 cameras cameras placed0 placed0
   placed-refused q e =
       let net = network s ends rays weights scales points offsets listed in
-      let x : failing q ≡ routed net route limit = ap (λ (y : Answer). outcome y (positionsIn s l1)) (sym e) ∙ R .answer in
+      let x : failing q ≡ routed net route limit = ap (λ (y : Answer). outcome y (positionsIn s l1)) (sym e) ∙ R .ended in
       record {
-        answer = e ∙ ap answerOf x;
+        answer = R .answer;
         camerasOut = ap (λ (y : Placement). camerasAfter y cameras) x;
         pointsOut = ap (λ (y : Placement). pointsAfter net y placed0) x;
         surplus = R .surplus;
@@ -189,82 +220,76 @@ module _ (s : Shape) (ends : List ℕ) (rays weights scales points : List Float)
 abbrev Zeroed : Placement → Type 0
 Zeroed x = (t : ℕ) (l : List Float) → workAfter t x l ≡ replicate t null ++ drop t l
 
-zeroed-dense : (a r : ℕ) (y : Result (List Vec3)) (b : Bool) (k i : ℕ) → Zeroed (denseOr b a r y (failingAt k i))
-zeroed-dense a r (done c) true k i t l = refl
-zeroed-dense a r (stopped j p) true k i t l = refl
-zeroed-dense a r y false k i t l = refl
+zeroed-dense : (r : ℕ) (y : Result (List Vec3)) (b : Bool) (k i : ℕ) → Zeroed (denseOr b r y (failingAt k i))
+zeroed-dense r (done c) true k i t l = refl
+zeroed-dense r (stopped j p) true k i t l = refl
+zeroed-dense r y false k i t l = refl
 
-zeroed-iterative : (a : ℕ) (x : Ending) (f : ℕ → ℕ → Placement) → ((k i : ℕ) → Zeroed (f k i)) → Zeroed (byIterative a x f)
-zeroed-iterative a (accepted s) f h = λ t l. refl
-zeroed-iterative a (refused k i) f h = h k i
+zeroed-iterative : (x : Ending) (f : ℕ → ℕ → Placement) → ((k i : ℕ) → Zeroed (f k i)) → Zeroed (byIterative x f)
+zeroed-iterative (accepted s) f h = λ t l. refl
+zeroed-iterative (refused k i) f h = h k i
 
 zeroed-routed : (net : Network) (route limit : ℕ) → badRoute route limit ≡ false → Zeroed (routed net route limit)
 unfolding routed
 zeroed-routed net route limit e =
-    let a = anchor net in
     let d = net .shape .cameras - 1 in
     let x = solution (problem net) in
     let y = denseSolution net in
-    route-cases a d limit x y Zeroed route e (zeroed-dense a 1 y (leb d limit) 14 d)
-    (zeroed-iterative a x failingAt (λ k i t l. refl))
-    (zeroed-iterative a x (fallBack a d limit y) (λ k i. zeroed-dense a 3 y (leb d limit) k i))
+    route-cases d limit x y Zeroed route e (zeroed-dense 1 y (leb d limit) 14 d)
+    (zeroed-iterative x failingAt (λ k i t l. refl))
+    (zeroed-iterative x (fallBack d limit y) (λ k i. zeroed-dense 3 y (leb d limit) k i))
 
 -- ---- demand 3
 
 -- not an answer of the iterative part
 abbrev Other : Placement → Type 0
-Other x = (a k : ℕ) → answerOf x ≡ Accepted (report a 2 k) → ⊥
+Other (rejected r) = Unit {0}
+Other (failing r) = Unit {0}
+Other (placed route rounds cameras) = route ≡ 2 → ⊥
 
-abbrev routeOf : Answer → ℕ
-routeOf (Refused r) = 0
-routeOf (Accepted p) = p .route
+other-dense : (r : ℕ) (y : Result (List Vec3)) (b : Bool) (k i : ℕ) → (r ≡ 2 → ⊥) → Other (denseOr b r y (failingAt k i))
+other-dense r (done c) true k i h = h
+other-dense r (stopped u v) true k i h = tt
+other-dense r y false k i h = tt
 
-other-failing : (k i : ℕ) → Other (failingAt k i)
-other-failing k i a j e = let z : _≡_ {A = ℕ} 0 2 = ap routeOf e in omega arith
+abbrev reportIn : Answer → Report → Report
+reportIn (Refused r) p = p
+reportIn (Accepted q) p = q
 
-other-dense : (a r : ℕ) (y : Result (List Vec3)) (b : Bool) (k i : ℕ) → (r ≡ 2 → ⊥) → Other (denseOr b a r y (failingAt k i))
-other-dense a r (done c) true k i h b j e = h (ap routeOf e)
-other-dense a r (stopped u v) true k i h b j e = other-failing u v b j e
-other-dense a r y false k i h b j e = other-failing k i b j e
+refused-not : (r : Refusal) (p : Report) → Refused r ≡ Accepted p → ⊥
+refused-not r p e = let z : _≡_ {A = ℕ} 0 1 = cc in omega arith
 
 module _ (net : Network) (N : NetworkSound net) where
   abbrev d : ℕ
   d = net .shape .cameras - 1
 
   abbrev Meant : Placement → Type 0
-  Meant x = (old : List Float) (a k : ℕ) → answerOf x ≡ Accepted (report a 2 k) →
-      (a ≡ anchor net) × Meaning (problem net) (load vector (camerasAfter x old) 0 (net .shape .cameras)) k
+  Meant x = (old : List Float) (p : Report) → answerOf net x ≡ Accepted p → p .route ≡ 2 →
+      (p .anchor ≡ anchor net) × Meaning (problem net) (load vector (camerasAfter x old) 0 (net .shape .cameras)) (p .rounds)
 
   meant-other : (x : Placement) → Other x → Meant x
-  meant-other x h old a k e = absurd (h a k e)
+  meant-other (rejected r) h old p e f = absurd (refused-not r p e)
+  meant-other (failing r) h old p e f = absurd (refused-not r p e)
+  meant-other (placed route rounds cameras) h old p e f = absurd (h (ap (λ (q : Answer). reportIn q p .route) e ∙ f))
 
-  abbrev anchorIn : Answer → ℕ
-  anchorIn (Refused r) = 0
-  anchorIn (Accepted p) = p .anchor
-
-  abbrev roundsOf : Answer → ℕ
-  roundsOf (Refused r) = 0
-  roundsOf (Accepted p) = p .rounds
-
-  meant-iterative : (x : Ending) → solution (problem net) ≡ x → (f : ℕ → ℕ → Placement) → ((k i : ℕ) → Other (f k i)) → Meant (byIterative (anchor net) x f)
+  meant-iterative : (x : Ending) → solution (problem net) ≡ x → (f : ℕ → ℕ → Placement) → ((k i : ℕ) → Other (f k i)) → Meant (byIterative x f)
   unfolding problemBy
-  meant-iterative (accepted s) q f h old a k e =
+  meant-iterative (accepted s) q f h old p e g =
       let M = accepted-network net N s q in
-      let c : s .round .count ≡ k = ap roundsOf e in
+      let c : s .round .count ≡ p .rounds = ap (λ (z : Answer). reportIn z p .rounds) e in
       let b : load vector (flat vector (s .positions)) 0 (net .shape .cameras) ≡ s .positions = load-flat vector vector-lawful (s .positions) (net .shape .cameras) (M .fits .placed) in
-      (sym (ap anchorIn e), rw b (subst (λ (j : ℕ). Meaning (problem net) (s .positions) j) c M))
-  meant-iterative (refused j i) q f h old a k e = meant-other (f j i) (h j i) old a k e
+      (sym (ap (λ (z : Answer). reportIn z p .anchor) e), rw b (subst (λ (j : ℕ). Meaning (problem net) (s .positions) j) c M))
+  meant-iterative (refused j i) q f h old p e g = meant-other (f j i) (h j i) old p e g
 
   meant-routed : (route limit : ℕ) → badRoute route limit ≡ false → Meant (routed net route limit)
   unfolding routed
   meant-routed route limit e =
-      let a = anchor net in
       let x = solution (problem net) in
       let y = denseSolution net in
-      route-cases a d limit x y Meant route e
-      (meant-other (denseOr (leb d limit) a 1 y (failingAt 14 d)) (other-dense a 1 y (leb d limit) 14 d (λ z. omega arith)))
-      (meant-iterative x refl failingAt other-failing)
-      (meant-iterative x refl (fallBack a d limit y) (λ k i. other-dense a 3 y (leb d limit) k i (λ z. omega arith)))
+      route-cases d limit x y Meant route e
+      (meant-other (denseOr (leb d limit) 1 y (failingAt 14 d)) (other-dense 1 y (leb d limit) 14 d (λ z. omega arith)))
+      (meant-iterative x refl failingAt (λ k i. tt))
+      (meant-iterative x refl (fallBack d limit y) (λ k i. other-dense 3 y (leb d limit) k i (λ z. omega arith)))
 
 -- ---- the solve
 
@@ -281,11 +306,11 @@ module _ (i : Submission) (v : Verdict) (work cameras points : List Float) (e : 
   solve-rejected r h =
       let q : rejected r ≡ placement i = ap (λ (u : Verdict). checked u (routed (i .net) (i .route) (i .limit))) (sym h ∙ e) in
       record {
-        answer = ap answerOf q;
+        answer = ap (answerOf (i .net)) q;
         camerasOut = ap (λ (y : Placement). camerasAfter y cameras) q;
         pointsOut = ap (λ (y : Placement). pointsAfter (i .net) y points) q;
         workOut = ap (λ (y : Placement). workAfter T y work) q;
-        meaning = λ a k f. let z : _≡_ {A = ℕ} 0 2 = ap routeOf f in absurd (omega arith);
+        meaning = λ p f g. absurd (refused-not r p f);
       }
 
   pub solve-placed : (r : Answer) (t : ℕ) (mid work' cameras' points' : List Float) → v ≡ Passed → OutputsFilled (i .net) (i .route) (i .limit) r work mid cameras cameras' points points' →
@@ -298,9 +323,9 @@ module _ (i : Submission) (v : Verdict) (work cameras points : List Float) (e : 
       let m : work' ≡ replicate T null ++ drop T mid = rw w at z in
       let s : replicate T null ++ drop T mid ≡ replicate T null ++ drop T work = ap (λ (u : List Float). replicate T null ++ u) (P .surplus) in
       record {
-        answer = P .answer ∙ ap answerOf q;
+        answer = P .answer ∙ ap (answerOf (i .net)) q;
         camerasOut = P .camerasOut ∙ ap (λ (u : Placement). camerasAfter u cameras) q;
         pointsOut = P .pointsOut ∙ ap (λ (u : Placement). pointsAfter (i .net) u points) q;
         workOut = m ∙ s ∙ sym (zeroed-routed (i .net) (i .route) (i .limit) (C .legal) T work) ∙ ap (λ (u : Placement). workAfter T u work) q;
-        meaning = λ a k f. rw (P .camerasOut) (meant-routed (i .net) (C .sound) (i .route) (i .limit) (C .legal) cameras a k (sym (P .answer) ∙ f));
+        meaning = λ p f g. rw (P .camerasOut) (meant-routed (i .net) (C .sound) (i .route) (i .limit) (C .legal) cameras p (sym (P .answer) ∙ f) g);
       }

@@ -11,6 +11,7 @@ use Rattle.network.specs.Network.{Network}
 use Rattle.network.specs.declared.Shape.{Shape}
 use Rattle.network.specs.Refusals.{verdict, countTests, lengthTests, networkFits, networkRowTests, routeTests}
 use Rattle.system.specs.System.{anchor}
+use Rattle.system.specs.Counts.{few}
 use Rattle.system.specs.Work.{workLength}
 use Rattle.iterative.specs.Method.{Ending, accepted, refused, solution}
 use Rattle.iterative.specs.Reduced.{problem}
@@ -32,14 +33,15 @@ abbrev pub submission : Network → ℕ → ℕ → ℕ → ℕ → ℕ → Subm
 submission net route limit work cameras points =
     record { net = net; route = route; limit = limit; work = work; cameras = cameras; points = points }
 
--- How a solve ends: rejected by 1 to 8; failed by 9, or 11 to 17; or with a report and the cameras.
+-- How a solve ends: rejected by 1 to 8; failed by 9, or 11 to 17; or with the answering route, its rounds and the cameras.
 pub data Placement : Type 0 where
   rejected : Refusal → Placement
   failing : Refusal → Placement
-  placed : Report → List Vec3 → Placement
+  placed : (route rounds : ℕ) → List Vec3 → Placement
 
-abbrev pub report : ℕ → ℕ → ℕ → Report
-report a route rounds = record { anchor = a; route = route; rounds = rounds }
+-- 'An accepted solve reports anchor, answering route, and rounds', and R-11's few. The network alone fixes anchor and few.
+abbrev pub report : Network → ℕ → ℕ → Report
+report net route rounds = record { anchor = anchor net; route = route; rounds = rounds; few = few net }
 
 abbrev pub failingAt : ℕ → ℕ → Placement
 failingAt k p = failing (record { number = k; place = p })
@@ -47,35 +49,35 @@ failingAt k p = failing (record { number = k; place = p })
 abbrev pub rejectedAt : ℕ → ℕ → Placement
 rejectedAt k p = rejected (record { number = k; place = p })
 
--- dense as route r, with the anchor a: the cameras, or 15 to 17
-abbrev pub byDense : ℕ → ℕ → Result (List Vec3) → Placement
-byDense a r (done cameras) = placed (report a r 0) cameras
-byDense a r (stopped k i) = failingAt k i
+-- dense as route r: the cameras, after no round, or 15 to 17
+abbrev pub byDense : ℕ → Result (List Vec3) → Placement
+byDense r (done cameras) = placed r 0 cameras
+byDense r (stopped k i) = failingAt k i
 
 -- dense where n - 1 is within the limit, else x
-abbrev pub denseOr : Bool → ℕ → ℕ → Result (List Vec3) → Placement → Placement
-denseOr within a r y x = cond within (byDense a r y) x
+abbrev pub denseOr : Bool → ℕ → Result (List Vec3) → Placement → Placement
+denseOr within r y x = cond within (byDense r y) x
 
 -- the iterative answer, or what follows its refusal
-abbrev pub byIterative : ℕ → Ending → (ℕ → ℕ → Placement) → Placement
-byIterative a (accepted s) f = placed (report a 2 (s .round .count)) (s .positions)
-byIterative a (refused k i) f = f k i
+abbrev pub byIterative : Ending → (ℕ → ℕ → Placement) → Placement
+byIterative (accepted s) f = placed 2 (s .round .count) (s .positions)
+byIterative (refused k i) f = f k i
 
 -- what follows on route 3: dense within the limit, else that refusal
-abbrev pub fallBack : ℕ → ℕ → ℕ → Result (List Vec3) → ℕ → ℕ → Placement
-fallBack a d limit y k i = denseOr (leb d limit) a 3 y (failingAt k i)
+abbrev pub fallBack : ℕ → ℕ → Result (List Vec3) → ℕ → ℕ → Placement
+fallBack d limit y k i = denseOr (leb d limit) 3 y (failingAt k i)
 
--- '1 dense; 2 iterative; 3 iterative, then dense if that refused and n-1 is within the dense limit': the route of an anchor a, d = n - 1 dense
+-- '1 dense; 2 iterative; 3 iterative, then dense if that refused and n-1 is within the dense limit': the route, with d = n - 1 dense
 -- rows, and the answers x of the iterative and y of the dense solve. Route 1 over the limit is 14 at d. No other number is a route: 8.
-unfoldable pub routedBy : ℕ → ℕ → ℕ → ℕ → Ending → Result (List Vec3) → Placement
-routedBy a d route limit x y =
-    cond (eqb route 1) (denseOr (leb d limit) a 1 y (failingAt 14 d))
-    (cond (eqb route 2) (byIterative a x failingAt)
-    (cond (eqb route 3) (byIterative a x (fallBack a d limit y))
+unfoldable pub routedBy : ℕ → ℕ → ℕ → Ending → Result (List Vec3) → Placement
+routedBy d route limit x y =
+    cond (eqb route 1) (denseOr (leb d limit) 1 y (failingAt 14 d))
+    (cond (eqb route 2) (byIterative x failingAt)
+    (cond (eqb route 3) (byIterative x (fallBack d limit y))
     (rejectedAt 8 0)))
 
 unfoldable pub routed : Network → ℕ → ℕ → Placement
-routed net route limit = routedBy (anchor net) (net .shape .cameras - 1) route limit (solution (problem net)) (denseSolution net)
+routed net route limit = routedBy (net .shape .cameras - 1) route limit (solution (problem net)) (denseSolution net)
 
 -- 3 tests the outputs (3n and 3m numbers) and the work buffer (at least T)
 unfoldable pub buffersFit : Shape → ℕ → ℕ → ℕ → ℕ → ℕ → Bool

@@ -9,28 +9,33 @@ use network::Refusal;
 use network::Shape;
 use network::Verdict;
 use recover::recover_points;
+use routes::Ended;
 use routes::go;
 use system::form;
+use system::reads::count_few;
 use system::work::positions_at;
 use system::work::work_needed;
 ghost use mathlib.Core.Path.{_≡_};
 ghost use Prim.Native.Nat.{_*_, _≤_};
 ghost use lib.ListN.{length};
-ghost use Rattle.field.specs.Buffer.{flat, vector};
+ghost use Rattle.field.specs.Buffer.{flat, load, vector};
 ghost use Rattle.network.specs.Network.{links, network};
-ghost use Rattle.network.specs.inner.Sound.{LinksSound};
-ghost use Rattle.system.specs.Work.{matrixAt};
+ghost use Rattle.network.specs.inner.Sound.{LinksSound, ShapeSound};
+ghost use Rattle.system.specs.Counts.{fewIn};
+ghost use Rattle.system.specs.Work.{matrixAt, term};
 ghost use Rattle.system.specs.inner.Formed.{RowsThere, positionsIn, weightsIn};
 ghost use Rattle.recover.specs.Recover.{pointsBy};
 ghost use Rattle.placement.specs.Routes.{submission};
-ghost use Rattle.placement.specs.inner.Routing.{Checked, OutputsFilled, Ran};
+ghost use Rattle.placement.specs.inner.Routing.{Checked, OutputsFilled, Ran, reported};
 ghost use Rattle.placement.specs.Solved.{Solved};
 
-// An accepted solve: the anchor, the answering route (1, 2, or 3 for dense after iterative), and the rounds (0 when dense answered).
+// An accepted solve: the anchor, the answering route (1, 2, or 3 for dense after iterative), the rounds (0 when dense answered), and how many cameras
+// have a count under 2.
 pub struct Report {
     pub anchor: usize,
     pub route: usize,
     pub rounds: usize,
+    pub few: usize,
 }
 
 pub enum Answer {
@@ -77,6 +82,23 @@ fn fill(
     );
 }
 
+// The answer, with what the system in the work buffer tells besides: the anchor and few.
+fn answered(s: Shape, anchor: usize, ended: Ended, work: &[f64]) -> Answer
+    requires { ⌜ ShapeSound s ⌝ }
+    requires { ⌜ matrixAt s ≤ length (now work) ⌝ }
+    ensures { λ r. ⌜ r ≡ reported anchor (fewIn (load term (now (work .entry)) 0 (s .cameras)) (s .cameras)) ended ⌝ }
+{
+    match ended {
+        Ended::Failed(refusal) => Answer::Refused(refusal),
+        Ended::Placed { route, rounds } => Answer::Accepted(Report {
+            anchor: anchor,
+            route: route,
+            rounds: rounds,
+            few: count_few(work, s.cameras),
+        }),
+    }
+}
+
 // Forms the system and goes the route.
 fn run(
     s: Shape,
@@ -98,7 +120,8 @@ fn run(
         route limit (now (work .entry)) (now (work .exit)) r ⌝ }
 {
     let anchor = form(s, ends, rays, weights, scales, offsets, listed, work);
-    go(s, ends, offsets, listed, route, limit, anchor, work)
+    let ended = go(s, ends, offsets, listed, route, limit, anchor, work);
+    answered(s, anchor, ended, work)
 }
 
 // The same, and the outputs filled where it is accepted.

@@ -1,6 +1,4 @@
 // The routes, over the system that is formed in the work buffer.
-use crate::Answer;
-use crate::Report;
 use cholesky::Solve;
 use dense::solve_dense;
 use iterative::Outcome;
@@ -18,6 +16,12 @@ ghost use Rattle.dense.specs.Dense.{dimension};
 ghost use Rattle.placement.specs.Routes.{byDense, byIterative, denseOr, failingAt, routedBy};
 ghost use Rattle.placement.specs.inner.Routing.{RouteReady, Routed, afterRefusal, denseIn, iterativeIn};
 
+// How a route ends: with a refusal, or with the answering route and its rounds.
+pub(crate) enum Ended {
+    Failed(Refusal),
+    Placed { route: usize, rounds: usize },
+}
+
 // Dense, answering as the route that is named.
 fn go_dense(
     s: Shape,
@@ -27,21 +31,20 @@ fn go_dense(
     anchor: usize,
     route: usize,
     work: &mut [f64],
-) -> Answer
+) -> Ended
     requires { ⌜ LinksSound (links s (now ends) (now offsets) (now listed)) ⌝ }
     requires { ⌜ (anchor < s .cameras) × (workEnd s (dimension s) ≤ length (now work)) ⌝ }
     ensures { λ r. ⌜ Routed s (workEnd s (dimension s))
-        (byDense anchor route (denseIn (links s (now (ends .entry)) (now (offsets .entry)) (now (listed .entry))) anchor (now (work .entry))))
+        (byDense route (denseIn (links s (now (ends .entry)) (now (offsets .entry)) (now (listed .entry))) anchor (now (work .entry))))
         (now (work .entry)) (now (work .exit)) r ⌝ }
 {
     let solve = solve_dense(s, ends, offsets, listed, anchor, work);
     match solve {
-        Solve::Done => Answer::Accepted(Report {
-            anchor: anchor,
+        Solve::Done => Ended::Placed {
             route: route,
             rounds: 0,
-        }),
-        Solve::Stopped { number, row } => Answer::Refused(Refusal {
+        },
+        Solve::Stopped { number, row } => Ended::Failed(Refusal {
             number: number,
             place: row,
         }),
@@ -57,16 +60,16 @@ fn go_first(
     limit: usize,
     anchor: usize,
     work: &mut [f64],
-) -> Answer
+) -> Ended
     requires { ⌜ LinksSound (links s (now ends) (now offsets) (now listed)) ⌝ }
     requires { ⌜ RouteReady s anchor 1 limit (length (now work)) ⌝ }
-    ensures { λ r. ⌜ Routed s (workLength s 1 limit) (denseOr (leb (dimension s) limit) anchor 1
+    ensures { λ r. ⌜ Routed s (workLength s 1 limit) (denseOr (leb (dimension s) limit) 1
         (denseIn (links s (now (ends .entry)) (now (offsets .entry)) (now (listed .entry))) anchor (now (work .entry)))
         (failingAt 14 (dimension s))) (now (work .entry)) (now (work .exit)) r ⌝ }
 {
     let d = s.cameras - 1;
     if d > limit {
-        return Answer::Refused(Refusal {
+        return Ended::Failed(Refusal {
             number: 14,
             place: d,
         });
@@ -85,18 +88,18 @@ fn fall_back(
     anchor: usize,
     refusal: Refusal,
     work: &mut [f64],
-) -> Answer
+) -> Ended
     requires { ⌜ LinksSound (links s (now ends) (now offsets) (now listed)) ⌝ }
     requires { ⌜ RouteReady s anchor route limit (length (now work)) ⌝ }
-    ensures { λ r. ⌜ Routed s (workLength s route limit) (afterRefusal anchor (dimension s) route limit
+    ensures { λ r. ⌜ Routed s (workLength s route limit) (afterRefusal (dimension s) route limit
         (denseIn (links s (now (ends .entry)) (now (offsets .entry)) (now (listed .entry))) anchor (now (work .entry)))
         (refusal .number) (refusal .place)) (now (work .entry)) (now (work .exit)) r ⌝ }
 {
     if route == 2 {
-        return Answer::Refused(refusal);
+        return Ended::Failed(refusal);
     }
     if s.cameras - 1 > limit {
-        return Answer::Refused(refusal);
+        return Ended::Failed(refusal);
     }
     go_dense(s, ends, offsets, listed, anchor, 3, work)
 }
@@ -111,22 +114,21 @@ fn go_iterative(
     limit: usize,
     anchor: usize,
     work: &mut [f64],
-) -> Answer
+) -> Ended
     requires { ⌜ LinksSound (links s (now ends) (now offsets) (now listed)) ⌝ }
     requires { ⌜ RouteReady s anchor route limit (length (now work)) ⌝ }
-    ensures { λ r. ⌜ Routed s (workLength s route limit) (byIterative anchor
+    ensures { λ r. ⌜ Routed s (workLength s route limit) (byIterative
         (iterativeIn (links s (now (ends .entry)) (now (offsets .entry)) (now (listed .entry))) anchor (now (work .entry)))
-        (afterRefusal anchor (dimension s) route limit
+        (afterRefusal (dimension s) route limit
         (denseIn (links s (now (ends .entry)) (now (offsets .entry)) (now (listed .entry))) anchor (now (work .entry)))))
         (now (work .entry)) (now (work .exit)) r ⌝ }
 {
     let outcome = solve_iterative(s, ends, offsets, listed, anchor, work);
     match outcome {
-        Outcome::Placed(rounds) => Answer::Accepted(Report {
-            anchor: anchor,
+        Outcome::Placed(rounds) => Ended::Placed {
             route: 2,
             rounds: rounds,
-        }),
+        },
         Outcome::Failed { number, place } => fall_back(
             s,
             ends,
@@ -154,10 +156,10 @@ pub(crate) fn go(
     limit: usize,
     anchor: usize,
     work: &mut [f64],
-) -> Answer
+) -> Ended
     requires { ⌜ LinksSound (links s (now ends) (now offsets) (now listed)) ⌝ }
     requires { ⌜ RouteReady s anchor route limit (length (now work)) ⌝ }
-    ensures { λ r. ⌜ Routed s (workLength s route limit) (routedBy anchor (dimension s) route limit
+    ensures { λ r. ⌜ Routed s (workLength s route limit) (routedBy (dimension s) route limit
         (iterativeIn (links s (now (ends .entry)) (now (offsets .entry)) (now (listed .entry))) anchor (now (work .entry)))
         (denseIn (links s (now (ends .entry)) (now (offsets .entry)) (now (listed .entry))) anchor (now (work .entry))))
         (now (work .entry)) (now (work .exit)) r ⌝ }

@@ -5,8 +5,8 @@ use lib.Ieee.{Float}
 use Rattle.field.specs.declared.Vec3.{Vec3}
 use Rattle.field.specs.Vec.{null, origin}
 use Rattle.network.proofs.Computing.{refusals}
-use Rattle.system.specs.System.{tiny, one}
-use Rattle.system.specs.Edges.{single, directed, five, half, two}
+use Rattle.system.specs.System.{tiny, one, two}
+use Rattle.system.specs.Edges.{single, directed, five, half}
 use Rattle.system.proofs.Computing.{assembly}
 use Rattle.recover.specs.Part.{marked}
 use Rattle.recover.specs.Recover.{sighting, pointBy, pointsOf, nearEnd, farEnd, baselineIn, directionKept, keptByWeight, renewal, answerIn, newScaleIn, newScale}

@@ -6,8 +6,8 @@ use mathlib.Core.Path.{_≡_}
 use lib.Ieee.{Float, binary64, ofBits}
 use Rattle.field.specs.Vec.{null}
 use Rattle.network.specs.declared.Verdict.the-variants.{Passed}
-use Rattle.system.specs.System.{one}
-use Rattle.system.specs.Edges.{directed, half, two}
+use Rattle.system.specs.System.{one, two}
+use Rattle.system.specs.Edges.{directed, half}
 use Rattle.recover.specs.declared.Scale.{Scale}
 use Rattle.recover.specs.declared.Scale.the-variants.{Kept, Renewed}
 use Rattle.recover.specs.Recover.{least, scaleAnswer, scaleNumber}

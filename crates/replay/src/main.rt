@@ -91,12 +91,13 @@ fn read_nodes(
     read_reals(input, listed, b"positions", reals, p.points, p.positions)
 }
 
-// The answer line: 0, anchor, route and rounds of an accepted solve, else number and place.
+// The answer line: 0, anchor, route, rounds and few of an accepted solve, else number and place.
 struct Line {
     first: usize,
     second: usize,
     third: usize,
     fourth: usize,
+    fifth: usize,
     next: usize,
 }
 
@@ -293,17 +294,20 @@ fn read_answer(input: &[u8], at: usize) -> Line {
             second: second.value,
             third: 0,
             fourth: 0,
+            fifth: 0,
             next: step(input, second.next, b'\n'),
         };
     }
     let third = decimal(input, second.next);
     let fourth = decimal(input, third.next);
+    let fifth = decimal(input, fourth.next);
     Line {
         first: 0,
         second: second.value,
         third: third.value,
         fourth: fourth.value,
-        next: step(input, fourth.next, b'\n'),
+        fifth: fifth.value,
+        next: step(input, fifth.next, b'\n'),
     }
 }
 
@@ -315,7 +319,10 @@ fn same_answer(answer: Answer, line: Line) -> bool {
         ),
         Answer::Accepted(r) => both(
             both(line.first == 0, line.second == r.anchor),
-            both(line.third == r.route, line.fourth == r.rounds),
+            both(
+                line.third == r.route,
+                both(line.fourth == r.rounds, line.fifth == r.few),
+            ),
         ),
     }
 }

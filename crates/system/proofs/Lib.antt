@@ -4,6 +4,7 @@ pub mod Terms
 pub mod Sums
 pub mod Rows
 pub mod Diagonals
+pub mod Counts
 pub mod Forming
 pub mod Edges
 pub mod Computing

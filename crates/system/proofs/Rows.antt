@@ -62,7 +62,7 @@ sums-kept s o l w e =
 -- a term changed where it stands, of terms x that were stored
 change-term : (F : CameraTerm → CameraTerm) (l m : List Float) (x : List CameraTerm) (c : ℕ) → m ≡ store term l 0 x → c < length x → termPlace (length x) ≤ length l →
     put term m (termPlace c) (F (get term m (termPlace c))) ≡ store term l 0 (set x c (F (termAt x c)))
-change-term F l m x c e h k = rw (← zero-add (5 * c)) (change-store term term-lawful F l m 0 x c noTerm e h (rw zero-add k))
+change-term F l m x c e h k = rw (← zero-add (termPlace c)) (change-store term term-lawful F l m 0 x c noTerm e h (rw zero-add k))
 
 module _ (s : Shape) (ends : List ℕ) (v : Vec3) (l : List Float) (E : EndsSound s ends) (room : matrixAt s ≤ length l) (r : ℕ) where
   x : List CameraTerm

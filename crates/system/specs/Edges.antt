@@ -13,12 +13,9 @@ five = ofBits binary64 0x4014000000000000
 abbrev pub minusTiny : Float
 minusTiny = ofBits binary64 0xbd719799812dea11
 
--- 0.5 and 2
+-- 0.5
 abbrev pub half : Float
 half = ofBits binary64 0x3fe0000000000000
-
-abbrev pub two : Float
-two = ofBits binary64 0x4000000000000000
 
 -- 1e300 and 1e10; 1e200 and 1e201
 abbrev pub huge : Float

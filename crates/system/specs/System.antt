@@ -26,9 +26,12 @@ tiny = ofBits binary64 0x3d719799812dea11
 abbrev pub ridge : Float
 ridge = ofBits binary64 0x3eb0c6f7a0b5ed8d
 
--- 1 and -1
+-- 1, -1 and 2
 abbrev pub one : Float
 one = ofBits binary64 0x3ff0000000000000
+
+abbrev pub two : Float
+two = ofBits binary64 0x4000000000000000
 
 abbrev pub minusOne : Float
 minusOne = ofBits binary64 0xbff0000000000000
@@ -107,27 +110,37 @@ meanOffset net p = sumsOf net .mean p
 -- ---- cameras
 
 abbrev pub noTerm : CameraTerm
-noTerm = record { diagonal = null; right = origin; degree = null }
+noTerm = record { diagonal = null; right = origin; degree = null; count = null }
 
 -- What a bearing of effective weight e adds to its camera's diagonal, on a point of weight w: e × (1 - e / w).
 abbrev pub reducedWeight : Float → Float → Float
 reducedWeight e w = mul binary64 e (sub binary64 one (div binary64 e w))
 
 -- A bearing of effective weight e with the pull o, on a point of weight w and mean offset v: it adds e to the degree always,
--- and nothing else where w is below 1e-12.
+-- and nothing else where w is below 1e-12. A row that enters the diagonal counts 1 (document 02, R-11).
 unfoldable pub sees : Float → Float → Vec3 → Vec3 → CameraTerm → CameraTerm
 sees e w v o t = record {
   diagonal = cond (lt w tiny) (t .diagonal) (add binary64 (t .diagonal) (reducedWeight e w));
   right = cond (lt w tiny) (t .right) (plus (t .right) (minus (scale v e) o));
   degree = add binary64 (t .degree) e;
+  count = cond (lt w tiny) (t .count) (add binary64 (t .count) one);
 }
 
--- A direction of effective weight e with the pull o, at its source and at its target.
+-- A direction of effective weight e, at an end whose right side becomes v.
+abbrev pub joins : Float → Vec3 → CameraTerm → CameraTerm
+joins e v t = record {
+  diagonal = add binary64 (t .diagonal) e;
+  right = v;
+  degree = add binary64 (t .degree) e;
+  count = add binary64 (t .count) one;
+}
+
+-- With the pull o, at its source and at its target.
 unfoldable pub departs : Float → Vec3 → CameraTerm → CameraTerm
-departs e o t = record { diagonal = add binary64 (t .diagonal) e; right = minus (t .right) o; degree = add binary64 (t .degree) e }
+departs e o t = joins e (minus (t .right) o) t
 
 unfoldable pub arrives : Float → Vec3 → CameraTerm → CameraTerm
-arrives e o t = record { diagonal = add binary64 (t .diagonal) e; right = plus (t .right) o; degree = add binary64 (t .degree) e }
+arrives e o t = joins e (plus (t .right) o) t
 
 abbrev pub termAt : List CameraTerm → ℕ → CameraTerm
 termAt ts c = getD ts c noTerm

@@ -1,5 +1,5 @@
--- The work buffer (document 01: 'T = 23n + 4m + B + E + d² + 3d doubles'): its segments lie one after another, each from where the one before it
--- ends.
+-- The work buffer (document 01: 'T = 23n + 4m + B + E + d² + 3d doubles', 24n with R-11's count): its segments lie one after another, each from
+-- where the one before it ends.
 use Prim.Native.Nat.{ℕ, _+_, _*_}
 use mathlib.Core.List.{List, [], _∷_}
 use lib.Ieee.{nan}
@@ -15,17 +15,22 @@ use Rattle.system.specs.declared.CameraTerm.{CameraTerm}
 use Rattle.system.specs.declared.work.Length.{Length}
 use Rattle.system.specs.declared.work.Length.the-variants.{Refused as NoLength, Of}
 
--- a camera's term as five doubles
+-- a camera's term as six doubles
 abbrev pub term : Cell CameraTerm
 term = record {
-  width = 5;
-  numbers = λ t. t .diagonal ∷ t .right .x ∷ t .right .y ∷ t .right .z ∷ t .degree ∷ [];
-  value = λ l. record { diagonal = getD l 0 nan; right = record { x = getD l 1 nan; y = getD l 2 nan; z = getD l 3 nan }; degree = getD l 4 nan };
+  width = 6;
+  numbers = λ t. t .diagonal ∷ t .right .x ∷ t .right .y ∷ t .right .z ∷ t .degree ∷ t .count ∷ [];
+  value = λ l. record {
+    diagonal = getD l 0 nan;
+    right = record { x = getD l 1 nan; y = getD l 2 nan; z = getD l 3 nan };
+    degree = getD l 4 nan;
+    count = getD l 5 nan;
+  };
 }
 
 -- n camera terms from place 0 on, then six fields of n vectors
 abbrev pub termPlace : ℕ → ℕ
-termPlace c = 5 * c
+termPlace c = 6 * c
 
 abbrev pub positionsAt : Shape → ℕ
 positionsAt s = termPlace (s .cameras)
@@ -69,7 +74,7 @@ workEnd s d = denseRightAt s d + 3 * d
 unfoldable pub workLength : Shape → ℕ → ℕ → ℕ
 workLength s route limit =
     let d = denseRows (s .cameras) route limit in
-    23 * s .cameras + 4 * s .points + s .bearings + s .directions + d * d + 3 * d
+    24 * s .cameras + 4 * s .points + s .bearings + s .directions + d * d + 3 * d
 
 -- the length of the work buffer that a solve needs, where 1 and 2 pass
 abbrev pub lengthIf : Verdict → ℕ → Length

@@ -19,15 +19,16 @@ ghost use lib.ListN.{length};
 ghost use Rattle.field.specs.Buffer.{get, put};
 ghost use Rattle.network.specs.Network.{links};
 ghost use Rattle.network.specs.inner.Sound.{LinksSound};
-ghost use Rattle.system.specs.System.{effectiveIn, pullIn, sumsFrom, sees as seen, departs as departed, arrives as arrived};
+ghost use Rattle.system.specs.System.{effectiveIn, pullIn, sumsFrom, sees as seen, joins as joined, departs as departed, arrives as arrived};
 ghost use Rattle.system.specs.Work.{term, termPlace, matrixAt};
 ghost use Rattle.system.specs.inner.Formed.{RowsThere, Formed};
 
-// What the system keeps of a camera: diagonal, right side, weighted degree.
+// What the system keeps of a camera: diagonal, right side, weighted degree, and the count of the rows that entered its diagonal.
 pub struct CameraTerm {
     pub diagonal: f64,
     pub right: Vec3,
     pub degree: f64,
+    pub count: f64,
 }
 
 impl CameraTerm {
@@ -36,19 +37,34 @@ impl CameraTerm {
         ensures { λ r. ⌜ r ≡ seen e w mean pull self ⌝ }
     {
         let old = self.right;
-        let counted = CameraTerm {
-            diagonal: self.diagonal,
-            right: old,
-            degree: self.degree + e,
-        };
+        let degree = self.degree + e;
         if w < 1e-12 {
-            return counted;
+            return CameraTerm {
+                diagonal: self.diagonal,
+                right: old,
+                degree: degree,
+                count: self.count,
+            };
         }
         let right = old.add(mean.mul(e).sub(pull));
+        let count = self.count + 1.0;
         CameraTerm {
             diagonal: self.diagonal + e * (1.0 - e / w),
             right: right,
-            degree: counted.degree,
+            degree: degree,
+            count: count,
+        }
+    }
+
+    // A direction of effective weight e adds to one of its ends, whose right side becomes `right`.
+    fn joins(self, e: f64, right: Vec3) -> CameraTerm
+        ensures { λ r. ⌜ r ≡ joined e right self ⌝ }
+    {
+        CameraTerm {
+            diagonal: self.diagonal + e,
+            right: right,
+            degree: self.degree + e,
+            count: self.count + 1.0,
         }
     }
 
@@ -57,11 +73,7 @@ impl CameraTerm {
         ensures { λ r. ⌜ r ≡ departed e pull self ⌝ }
     {
         let right = self.right.sub(pull);
-        CameraTerm {
-            diagonal: self.diagonal + e,
-            right: right,
-            degree: self.degree + e,
-        }
+        self.joins(e, right)
     }
 
     // And to its target.
@@ -69,11 +81,7 @@ impl CameraTerm {
         ensures { λ r. ⌜ r ≡ arrived e pull self ⌝ }
     {
         let right = self.right.add(pull);
-        CameraTerm {
-            diagonal: self.diagonal + e,
-            right: right,
-            degree: self.degree + e,
-        }
+        self.joins(e, right)
     }
 }
 
@@ -105,6 +113,7 @@ pub fn get_term(work: &[f64], c: usize) -> CameraTerm
         diagonal: work[p],
         right: right,
         degree: work[p + 4],
+        count: work[p + 5],
     }
 }
 
@@ -117,6 +126,7 @@ pub(crate) fn put_term(work: &mut [f64], c: usize, t: CameraTerm)
     work[p] = t.diagonal;
     put3(work, p + 1, right);
     work[p + 4] = t.degree;
+    work[p + 5] = t.count;
 }
 
 // Forms the system in the work buffer, and returns the anchor: `update_point_statistics`, `assemble_camera_system`, `pick_anchor`.

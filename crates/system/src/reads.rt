@@ -1,4 +1,5 @@
 // What is read of the work buffer once the sums stand there.
+use crate::get_term;
 use crate::work::effective_at;
 use crate::work::means_at;
 use crate::work::weights_at;
@@ -8,10 +9,14 @@ use network::Shape;
 ghost use mathlib.Core.Path.{_≡_};
 ghost use Prim.Native.Nat.{_+_, _*_, _<_, _≤_};
 ghost use lib.ListN.{length};
-ghost use Rattle.field.specs.Buffer.{get, vector};
+ghost use lib.Ieee.{lt};
+ghost use Rattle.field.specs.Buffer.{get, load, vector};
+ghost use Rattle.field.specs.Count.{indicator};
 ghost use Rattle.network.specs.Network.{rows};
 ghost use Rattle.network.specs.inner.Sound.{ShapeSound};
-ghost use Rattle.system.specs.Work.{meansAt, matrixAt};
+ghost use Rattle.system.specs.System.{two};
+ghost use Rattle.system.specs.Counts.{fewIn};
+ghost use Rattle.system.specs.Work.{term, termPlace, meansAt, matrixAt};
 ghost use Rattle.system.specs.inner.Formed.{weightsIn};
 
 // The effective weight of row r.
@@ -41,4 +46,25 @@ pub(crate) fn mean_offset(s: Shape, work: &[f64], p: usize) -> Vec3
     ensures { λ v. ⌜ v ≡ get vector (now (work .entry)) (meansAt s + 3 * p) ⌝ }
 {
     get3(work, means_at(s) + 3 * p)
+}
+
+// 1 for a count under 2, else 0.
+fn under_two(count: f64) -> usize
+    ensures { λ r. ⌜ (r ≡ indicator (lt count two)) × (r ≤ 1) ⌝ }
+{
+    if count < 2.0 { 1 } else { 0 }
+}
+
+// How many of n cameras have a count under 2.
+pub fn count_few(work: &[f64], n: usize) -> usize
+    requires { ⌜ (n ≤ 4096) × (termPlace n ≤ length (now work)) ⌝ }
+    ensures { λ r. ⌜ r ≡ fewIn (load term (now (work .entry)) 0 n) n ⌝ }
+{
+    let mut few = 0usize;
+    let mut c = 0usize;
+    while c < n {
+        few += under_two(get_term(work, c).count);
+        c += 1;
+    }
+    few
 }

@@ -21,7 +21,7 @@ pub fn term_at(c: usize) -> usize
     requires { ⌜ c ≤ 4096 ⌝ }
     ensures { λ r. ⌜ r ≡ termPlace c ⌝ }
 {
-    5 * c
+    6 * c
 }
 
 pub fn positions_at(s: Shape) -> usize
@@ -124,7 +124,7 @@ pub fn work_needed(s: Shape, route: usize, limit: usize) -> usize
     work_end(s, dense_rows(s.cameras, route, limit))
 }
 
-// The doubles that a solve's work buffer needs: T = 23n + 4m + B + E + d² + 3d.
+// The doubles that a solve's work buffer needs: T = 24n + 4m + B + E + d² + 3d.
 pub fn work_length(s: Shape, route: usize, limit: usize) -> Length
     ensures { λ r. ⌜ r ≡ lengthOf s route limit ⌝ }
 {

@@ -22,6 +22,8 @@ use Rattle.cholesky.specs.Cholesky.{Result}
 use Rattle.dense.specs.Dense.{denseSolutionBy}
 use Rattle.placement.specs.declared.Answer.{Answer}
 use Rattle.placement.specs.declared.Answer.the-variants.{Refused, Accepted}
+use Rattle.placement.specs.declared.routes.Ended.{Ended}
+use Rattle.placement.specs.declared.routes.Ended.the-variants.{Failed, Placed}
 use Rattle.placement.specs.Routes.{Placement, failing, failingAt, fallBack, placed, routed}
 use Rattle.placement.specs.Solved.{answerOf, camerasAfter, pointsAfter}
 
@@ -41,22 +43,32 @@ abbrev pub denseIn : Links → ℕ → List Float → Result (List Vec3)
 denseIn L a l = denseSolutionBy L (weightsIn (L .shape) l) (load term l 0 (L .shape .cameras)) a
 
 -- after a refusal of the iterative part, on either of its routes: that refusal on route 2, what follows on route 3
-abbrev pub afterRefusal : ℕ → ℕ → ℕ → ℕ → Result (List Vec3) → ℕ → ℕ → Placement
-afterRefusal a d route limit y k i = cond (eqb route 2) (failingAt k i) (fallBack a d limit y k i)
+abbrev pub afterRefusal : ℕ → ℕ → ℕ → Result (List Vec3) → ℕ → ℕ → Placement
+afterRefusal d route limit y k i = cond (eqb route 2) (failingAt k i) (fallBack d limit y k i)
 
--- an answer, with the cameras that stand in the buffer
-abbrev pub outcome : Answer → List Vec3 → Placement
-outcome (Refused r) cameras = failing r
-outcome (Accepted p) cameras = placed p cameras
+-- how a route ended, with the cameras that stand in the buffer
+abbrev pub endedWith : Ended → List Vec3 → Placement
+endedWith (Failed r) cameras = failing r
+endedWith (Placed route rounds) cameras = placed route rounds cameras
 
--- The route that ends as x made l' of the buffer l, and answered r. The first t numbers may have changed, but not the system.
-pub record Routed (s : Shape) (t : ℕ) (x : Placement) (l l' : List Float) (r : Answer) : Type 0 where
-  pub answer : outcome r (positionsIn s l') ≡ x
+-- The route that ends as x made l' of the buffer l, and ended as r. The first t numbers may have changed, but not the system.
+pub record Routed (s : Shape) (t : ℕ) (x : Placement) (l l' : List Float) (r : Ended) : Type 0 where
+  pub answer : endedWith r (positionsIn s l') ≡ x
   pub segments : (w : Weights) (ts : List CameraTerm) → Segments s w ts l → Segments s w ts l'
   pub surplus : drop t l' ≡ drop t l
   pub size : length l' ≡ length l
 
 -- ---- the whole solve
+
+-- the answer, with an anchor and few
+abbrev pub reported : ℕ → ℕ → Ended → Answer
+reported a few (Failed r) = Refused r
+reported a few (Placed route rounds) = Accepted (record { anchor = a; route = route; rounds = rounds; few = few })
+
+-- an answer, with the cameras that stand in the buffer
+abbrev pub outcome : Answer → List Vec3 → Placement
+outcome (Refused r) cameras = failing r
+outcome (Accepted p) cameras = placed (p .route) (p .rounds) cameras
 
 -- nothing was refused, and the buffer has the length that the route needs
 pub record Checked (net : Network) (route limit size : ℕ) : Type 0 where
@@ -66,14 +78,15 @@ pub record Checked (net : Network) (route limit size : ℕ) : Type 0 where
 
 -- the network's system is formed and the route taken
 pub record Ran (net : Network) (route limit : ℕ) (l l' : List Float) (r : Answer) : Type 0 where
-  pub answer : outcome r (positionsIn (net .shape) l') ≡ routed net route limit
+  pub ended : outcome r (positionsIn (net .shape) l') ≡ routed net route limit
+  pub answer : r ≡ answerOf net (routed net route limit)
   pub segments : Segments (net .shape) (weightsOf net) (terms net) l'
   pub surplus : drop (workLength (net .shape) route limit) l' ≡ drop (workLength (net .shape) route limit) l
   pub size : length l' ≡ length l
 
 -- and the outputs are filled, where it is accepted
 pub record OutputsFilled (net : Network) (route limit : ℕ) (r : Answer) (work work' cameras cameras' points points' : List Float) : Type 0 where
-  pub answer : r ≡ answerOf (routed net route limit)
+  pub answer : r ≡ answerOf net (routed net route limit)
   pub camerasOut : cameras' ≡ camerasAfter (routed net route limit) cameras
   pub pointsOut : points' ≡ pointsAfter net (routed net route limit) points
   pub surplus : drop (workLength (net .shape) route limit) work' ≡ drop (workLength (net .shape) route limit) work

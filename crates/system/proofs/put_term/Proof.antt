@@ -17,5 +17,8 @@ put-term-spec =
     (λ c. search needs)
     (λ c. search needs)
     (λ c. omega (arith, simp length-set at (c .before .before .put3 .kept .0)))
+    (λ c. search needs)
+    (λ c. search needs)
+    (λ c. simp length-set (omega (arith, simp length-set at (c .before .before .put3 .kept .0))))
     (λ c. simp length-set (omega (arith, simp length-set at (c .before .before .put3 .kept .0))))
     (λ c. search put-term-by))

@@ -14,6 +14,7 @@ put-answer-spec =
     (λ c. search needs)
     (λ c. search needs)
     (λ c. search needs)
+    (λ c. search needs)
     (λ c. search answer-refused)
     (λ c. search needs)
     (λ c. search answer-accepted))

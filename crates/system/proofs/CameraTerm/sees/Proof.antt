@@ -4,7 +4,7 @@ use Rattle.system.proofs.CameraTerm.sees.Statement.{statement}
 use Rattle.system.proofs.CameraTerm.sees.Tie as tie
 
 returns : tie.Need-returns
-returns c = sees-faint _ _ _ _ _ (c .if1 .taken)
+returns c = search sees-faint
 
 mul-requires : tie.Need-mul-requires
 mul-requires c κs = search needs
@@ -16,7 +16,7 @@ add-requires : tie.Need-add-requires
 add-requires c κs = search needs
 
 returns-2 : tie.Need-returns-2
-returns-2 c = sees-full _ _ _ _ _ _ _ _ (c .before .before .before .before .if1 .left) (c .before .before .before .mul .ensures) (c .before .before .sub .ensures) (c .before .add .ensures)
+returns-2 c = search sees-full
 
 pub sees-spec : {M : Type 1} → statement M
 sees-spec = tie.close (tie.spec returns mul-requires sub-requires add-requires returns-2)
