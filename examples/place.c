@@ -91,11 +91,11 @@ int main(int argc, char **argv) {
     double *work = room(work_len, sizeof *work);
     check("solve",
         vobzeile_solve(n, m, b, e, ends, 2 * r, rays, 3 * r, weights, r, scales, r, points, 3 * m, offsets, m + 1, rows, b, route, limit,
-            work, work_len, cameras, 3 * n, placed, 3 * m, report, 3),
+            work, work_len, cameras, 3 * n, placed, 3 * m, report, 4),
         report);
 
     printf("cameras %zu points %zu bearings %zu directions %zu parts %zu\n", n, m, b, e, parts);
-    printf("anchor %zu route %zu rounds %zu\n", report[0], report[1], report[2]);
+    printf("anchor %zu route %zu rounds %zu\nfew %zu\n", report[0], report[1], report[2], report[3]);
     print('c', n, cameras);
     print('p', m, placed);
 

@@ -52,10 +52,11 @@ def read_text(text):
     try:
         if lines[0][0] == 'refused':
             return 'refused', int(lines[0][1]), int(lines[0][3])
-        counts = dict(zip(lines[0][::2], map(int, lines[0][1::2])))
+        named = lambda line: dict(zip(line[::2], map(int, line[1::2])))
+        counts = named(lines[0])
         n, m = counts['cameras'], counts['points']
-        report = dict(zip(lines[2][::2], map(int, lines[2][1::2])))
-        vectors = [(line[0], int(line[1]), tuple(map(double, line[2:]))) for line in lines[3:]]
+        report = dict(named(lines[2]), few=named(lines[3])['few'])
+        vectors = [(line[0], int(line[1]), tuple(map(double, line[2:]))) for line in lines[4:]]
         names = [('c', i) for i in range(n)] + [('p', i) for i in range(m)]
         if [v[:2] for v in vectors] != names or any(len(v[2]) != 3 for v in vectors):
             raise Wrong('the text does not have a line for each camera and point')
@@ -133,6 +134,7 @@ def head_lines(answer):
     kinds = [('cameras', 'camera'), ('points', 'point'), ('bearings', 'bearing'), ('directions', 'direction')]
     lines = [', '.join(some(answer[k], name) for k, name in kinds)]
     lines.append(f'anchor: camera {answer["anchor"]}; route {answer["route"]} ({ROUTES[answer["route"]]}), {some(answer["rounds"], "round")}')
+    lines.append(f'{some(answer["few"], "camera")} held by fewer than 2 rows')
     if answer['parts'] > 1:
         lines.append(f'{answer["parts"]} parts: where they lie relative to each other means nothing')
     return lines

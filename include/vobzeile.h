@@ -36,7 +36,7 @@
  * takes images of at most 16,384 bytes and 64 cameras.)
  *
  * Answers. A function (but vobzeile_sqrt) returns 0, and `report` then holds what was asked; or it returns the number of a refusal, whose
- * place is then the report's first number. A report has 1 number; a solve's has 3, that of vobzeile_counts and of vobzeile_read 4. One of
+ * place is then the report's first number. A report has 1 number; that of a solve, of vobzeile_counts and of vobzeile_read has 4. One of
  * another length is refused by 3, in its turn after 1 and 2 (an image's 20 to 22 come before these), and left; where one of those refuses
  * first, its place is stored if the report has a first number.
  *
@@ -119,7 +119,7 @@ size_t vobzeile_parts(
     size_t *report, size_t report_len);
 
 /*
- * The doubles that a solve's work buffer needs, in report[0]: 23n + 4m + b + e + d*d + 3d, where d is n-1 if the route may go dense
+ * The doubles that a solve's work buffer needs, in report[0]: 24n + 4m + b + e + d*d + 3d, where d is n-1 if the route may go dense
  * within the limit, else 0 (0 too if 8 would refuse the route or the limit). Refuses by 1, 2 and (the report's length) 3.
  */
 size_t vobzeile_work_length(
@@ -168,10 +168,12 @@ size_t vobzeile_scales(
 
 /*
  * Places every camera and point: fills `cameras` (3n) and `placed` (3m); `points` are the old ones, which a point of a weight below 1e-12
- * keeps. Route 1 is dense, 2 iterative, 3 iterative and then dense if that refused and n-1 is within the limit. `report` has 3 numbers:
- * anchor, answering route (3: dense after iterative) and rounds (0 where dense answered); a refusal leaves the second and the third.
- * `work` has at least the doubles of vobzeile_work_length, with any content; unless 1 to 8 refused, those are +0.0 afterwards, and any
- * more are left. Refuses by 1 to 17. Points are not tested for finiteness.
+ * keeps. Route 1 is dense, 2 iterative, 3 iterative and then dense if that refused and n-1 is within the limit. `report` has 4 numbers:
+ * anchor, answering route (3: dense after iterative), rounds (0 where dense answered), and how many cameras, the anchor among them, have
+ * fewer than 2 rows: a bearing on a point of a weight below 1e-12 is not counted, a direction is counted at both of its ends, whatever its
+ * weight, and a row given twice counts twice. A refusal leaves all but the first. `work` has at least the doubles of
+ * vobzeile_work_length, with any content; unless 1 to 8 refused, those are +0.0 afterwards, and any more are left. Refuses by 1 to 17.
+ * Points are not tested for finiteness.
  */
 size_t vobzeile_solve(
     size_t n, size_t m, size_t b, size_t e,

@@ -13,7 +13,7 @@
 //! holds the zeros of the call before.
 
 use networks::{Network, block_of, full, generate};
-use oracle::{Oracle, ReducedSystemBackend, Tag, tried};
+use oracle::{Oracle, ReducedSystemBackend, Tag, few, tried};
 use port::Port;
 use std::time::Duration;
 
@@ -71,7 +71,7 @@ mod port {
         pub placed: Vec<f64>,
         pub out: Vec<f64>,
         nodes: Vec<usize>,
-        pub report: [usize; 3],
+        pub report: [usize; 4],
     }
 
     impl<'a> Port<'a> {
@@ -83,7 +83,7 @@ mod port {
                 placed: vec![0.0; 3 * net.m],
                 out: vec![0.0; net.b + net.e],
                 nodes: vec![0; net.n + net.m],
-                report: [0; 3],
+                report: [0; 4],
             }
         }
 
@@ -94,7 +94,7 @@ mod port {
                     s.n, s.m, s.b, s.e, s.ends.as_ptr(), s.ends.len(), s.rays.as_ptr(), s.rays.len(), s.weights.as_ptr(), s.weights.len(),
                     s.scales.as_ptr(), s.scales.len(), s.points.as_ptr(), s.points.len(), s.offsets.as_ptr(), s.offsets.len(),
                     s.rows.as_ptr(), s.rows.len(), route, limit, self.work.as_mut_ptr(), self.work.len(),
-                    self.cameras.as_mut_ptr(), self.cameras.len(), self.placed.as_mut_ptr(), self.placed.len(), self.report.as_mut_ptr(), 3,
+                    self.cameras.as_mut_ptr(), self.cameras.len(), self.placed.as_mut_ptr(), self.placed.len(), self.report.as_mut_ptr(), 4,
                 )
             }
         }
@@ -252,7 +252,7 @@ fn solve(name: &str, net: &Network, route: usize, limit: usize, runs: usize) -> 
     let (planned_time, (backend, planned_rounds)) = whole(&mut planned, runs, |oracle| oracle.by_plan());
     let mut port = Port::new(net, route, limit);
     let (port_time, number) = best(runs, || port.solve(route, limit));
-    assert!(number == 0 && port.report == [anchor, answered, rounds], "{name}: the answer differs");
+    assert!(number == 0 && port.report == [anchor, answered, rounds, few(&net.view())], "{name}: the answer differs");
     assert!(same(&port.cameras, &free.trial_cameras()) && same(&port.placed, &free.trial_points()), "{name}: the placement differs");
     let far = apart(&planned.trial_cameras(), &port.cameras);
     assert!(far < 1e-6, "{name}: the plan's cameras are {far:e} apart");

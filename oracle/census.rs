@@ -19,7 +19,11 @@ fn main() {
         let whole = connected(&net);
         assert_eq!(whole, labels(&net).1 == 1, "case {number}");
         met.meet(if whole { "connected" } else { "disconnected" }, number);
-        for class in classes::of_solve(net.n, route, &solve(&net, route, limit)) {
+        let answer = solve(&net, route, limit);
+        for class in classes::of_solve(net.n, route, &answer) {
+            met.meet(class, number);
+        }
+        for class in classes::of_few(&net, &answer) {
             met.meet(class, number);
         }
     }

@@ -1,6 +1,6 @@
 //! The classes that answers are counted by.
 
-use oracle::{Placement, Tag};
+use oracle::{Network, Placement, Tag};
 use std::collections::BTreeMap;
 
 /// Every class but 12 by a NaN (a finite curvature means finite applied numbers, so a residual can overflow but not become NaN in one round).
@@ -37,6 +37,9 @@ pub const WANTED: [&str; 30] = [
     "connected",
     "disconnected",
 ];
+
+/// The classes of `of_few`, wanted too. The recorded sample is not chosen by them.
+pub const FEW: [&str; 3] = ["accepted, few 0", "accepted, few above 0", "accepted, few by a point below 1e-12"];
 
 fn sort(value: f64) -> &'static str {
     if value.is_nan() {
@@ -98,6 +101,25 @@ pub fn of_solve(n: usize, route: usize, answer: &Result<Placement, Tag>) -> Vec<
     classes
 }
 
+/// The classes of an accepted solve by its cameras of few rows; the last where a camera of two rows or more is among them.
+pub fn of_few(net: &Network, answer: &Result<Placement, Tag>) -> Vec<&'static str> {
+    let Ok(placed) = answer else {
+        return Vec::new();
+    };
+    let mut rows = vec![0; net.n];
+    for row in 0..net.b + net.e {
+        rows[net.ends[2 * row]] += 1;
+        if row >= net.b {
+            rows[net.ends[2 * row + 1]] += 1;
+        }
+    }
+    let mut classes = vec![FEW[(placed.few > 0) as usize]];
+    if placed.few > rows.iter().filter(|count| **count < 2).count() {
+        classes.push(FEW[2]);
+    }
+    classes
+}
+
 /// Prints how often the Rust's own text met 10; whether it never did.
 pub fn no_tens() -> bool {
     println!("10, which the Rust's own text tests and no diagonal can meet: met {} times", oracle::tens());
@@ -119,9 +141,10 @@ impl Met {
         for (class, (count, first)) in &self.0 {
             println!("  {count:>8}  {class}  (case {first})");
         }
-        let holes: Vec<_> = WANTED.iter().filter(|class| !self.0.contains_key(**class)).collect();
+        let wanted = || WANTED.iter().chain(&FEW);
+        let holes: Vec<_> = wanted().filter(|class| !self.0.contains_key(**class)).collect();
         if holes.is_empty() {
-            println!("every wanted class was met ({} of them)", WANTED.len());
+            println!("every wanted class was met ({} of them)", wanted().count());
         } else {
             println!("never met: {holes:?}");
         }

@@ -242,7 +242,7 @@ fn refused(report: &Lent<usize>, length: usize, (number, place): rules::Refusal,
 }
 
 /// The numbers of a report: a solve's, and every other call's.
-const SOLVE_REPORT: usize = 3;
+const SOLVE_REPORT: usize = 4;
 const REPORT: usize = 1;
 
 /// What a solve is lent beside the network.
@@ -294,7 +294,7 @@ fn compare_solve(call: &Call, route: usize, limit: usize, room: Room, difference
             match answer {
                 Ok(placement) => {
                     answered("solve's answer", got, 0, differences);
-                    report.check(&[placement.anchor, placement.route, placement.rounds], differences);
+                    report.check(&[placement.anchor, placement.route, placement.rounds, placement.few], differences);
                     cameras.check(&placement.cameras, differences);
                     placed.check(&placement.points, differences);
                 }
@@ -548,7 +548,7 @@ fn compare_spoiled(case: &Case, random: &mut Random, differences: &mut Vec<Strin
     }
     let mut told = REPORT;
     if random.chance(20) {
-        room.report = random.pick(&[0, 1, 2, 4]);
+        room.report = random.pick(&[0, 1, 3, 5]);
         told = random.pick(&[0, 2, 3]);
     }
     let met_by = |name: &str, refusal: &rules::Refusal| format!("{name} refused {}", refusal.0);
@@ -579,6 +579,9 @@ fn compare(case: &Case, random: &mut Random, met: &mut Met, number: u64, routes:
             continue;
         };
         for class in classes::of_solve(case.net.n, route, &answer) {
+            met.meet(class, number);
+        }
+        for class in classes::of_few(&case.net.view(), &answer) {
             met.meet(class, number);
         }
         if let (Ok(placement), true) = (answer, route == case.route) {

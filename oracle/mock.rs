@@ -46,19 +46,19 @@ pub unsafe extern "C" fn vobzeile_solve(
     lent!(work work_len, cameras cameras_len, placed placed_len, report report_len);
     let (net, subject) = network!(n, m, b, e, ends, rays, weights, scales, points, offsets, rows);
     let needed = || rules::work_length(n, m, b, e, route, limit);
-    let fit = || work.len() >= needed() && cameras.len() == 3 * n && placed.len() == 3 * m && report_len == 3;
+    let fit = || work.len() >= needed() && cameras.len() == 3 * n && placed.len() == 3 * m && report_len == 4;
     if let Some(refusal) = rules::solve(&net, route, limit, fit) {
-        return refuse(report, 3, refusal);
+        return refuse(report, 4, refusal);
     }
     work[..needed()].fill(0.0);
     match subject::solve(&subject, route, limit) {
         Ok(answer) => {
             cameras.copy_from_slice(&answer.cameras);
             placed.copy_from_slice(&answer.points);
-            report.copy_from_slice(&[answer.anchor, answer.route, answer.rounds]);
+            report.copy_from_slice(&[answer.anchor, answer.route, answer.rounds, answer.few]);
             0
         }
-        Err(tag) => refuse(report, 3, (tag.number, tag.place)),
+        Err(tag) => refuse(report, 4, (tag.number, tag.place)),
     }
 }
 

@@ -122,8 +122,8 @@ fn printed(bytes: &[u8]) -> String {
     match oracle::solve(&net.view(), ROUTE, LIMIT) {
         Err(tag) => format!("refused {} place {}\n", tag.number, tag.place),
         Ok(p) => format!(
-            "cameras {} points {} bearings {} directions {}\nparts {parts}\nanchor {} route {} rounds {}\n{}{}",
-            net.n, net.m, net.b, net.e, p.anchor, p.route, p.rounds, lines("c", &p.cameras), lines("p", &p.points)
+            "cameras {} points {} bearings {} directions {}\nparts {parts}\nanchor {} route {} rounds {}\nfew {}\n{}{}",
+            net.n, net.m, net.b, net.e, p.anchor, p.route, p.rounds, p.few, lines("c", &p.cameras), lines("p", &p.points)
         ),
     }
 }

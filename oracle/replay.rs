@@ -17,7 +17,7 @@
 //!   positions ..               3n, cameras to form dots and scales from, together with the old points
 //!   connected YES              1 or 0
 //!   parts COUNT ..             the number of parts, then n labels
-//!   answer 0 ANCHOR ROUTE ROUNDS, or answer NUMBER PLACE of a refusal
+//!   answer 0 ANCHOR ROUTE ROUNDS FEW, or answer NUMBER PLACE of a refusal
 //!   cameras ..                 3n where the solve was accepted, else none
 //!   placed ..                  3m where the solve was accepted, else none
 //!   dots ..                    B+E
@@ -71,7 +71,7 @@ fn block(number: usize, case: &Case) -> String {
     wholes(text, &format!("parts {parts}"), &labels);
     match oracle::solve(&net, case.route, case.limit) {
         Ok(placed) => {
-            wholes(text, "answer", &[0, placed.anchor, placed.route, placed.rounds]);
+            wholes(text, "answer", &[0, placed.anchor, placed.route, placed.rounds, placed.few]);
             doubles(text, "cameras", &placed.cameras);
             doubles(text, "placed", &placed.points);
         }

@@ -1,4 +1,4 @@
-//! Refusals 1 to 8 and the work length, written from document 01: what the Rust kernel has no part in.
+//! Refusals 1 to 8 and the work length, written from documents 01 and 02: what the Rust kernel has no part in.
 //!
 //! A refusal is its number and place. Lengths are tested by equality, except the work buffer and the node numbers, which may
 //! be longer than needed. A report's length is one of them: `fit` has it too.
@@ -122,8 +122,8 @@ pub fn solve(net: &Network, route: usize, limit: usize, fit: impl FnOnce() -> bo
     step(net, &[], fit).or_else(|| bad_route(route, limit).then_some((8, 0)))
 }
 
-/// T = 23n + 4m + B + E + d² + 3d.
+/// T = 24n + 4m + B + E + d² + 3d.
 pub fn work_length(n: usize, m: usize, b: usize, e: usize, route: usize, limit: usize) -> usize {
     let d = if bad_route(route, limit) || route == 2 || n - 1 > limit { 0 } else { n - 1 };
-    23 * n + 4 * m + b + e + d * d + 3 * d
+    24 * n + 4 * m + b + e + d * d + 3 * d
 }

@@ -168,8 +168,8 @@ fn case() -> Case {
         current: vec![0.0, 0.0, 0.0, 1.0, 0.0, 0.0, 1.0, 1.0, 0.0],
         trial: vec![f64::NAN; 9],
         mark: 0,
-        // 23 * 3 + 4 * 2 + 3 + 2 + 4 + 6, and two to spare
-        work: 94,
+        // 24 * 3 + 4 * 2 + 3 + 2 + 4 + 6, and two to spare
+        work: 97,
         cameras: 9,
         placed: 6,
         out: 5,
@@ -179,7 +179,7 @@ fn case() -> Case {
         // 52 + 48 * 5 + 24 * 2, and four to spare
         bytes: 344,
         report: 1,
-        solve_report: 3,
+        solve_report: 4,
     }
 }
 
@@ -262,7 +262,7 @@ fn solve(case: &Case) -> Outcome {
     }
     if code == 0 {
         let answer = report.get().to_vec();
-        assert_eq!(answer.len(), 3);
+        assert_eq!(answer.len(), 4);
         report.holds(&answer);
         cameras.guarded();
         placed.guarded();
@@ -271,7 +271,7 @@ fn solve(case: &Case) -> Outcome {
     }
     cameras.untouched();
     placed.untouched();
-    (code, report.told(code, 3))
+    (code, report.told(code, 4))
 }
 
 /// Dots and scales, which refuse alike.
@@ -473,11 +473,11 @@ fn lengths_and_counts() {
 #[test]
 fn lengths_of_outputs() {
     let (three, fine) = ((3, 0), ANSWERED);
-    for length in [0, 1, 91] {
+    for length in [0, 1, 94] {
         refused(|c| c.work = length, three, fine, fine, fine);
     }
     // just what is needed
-    refused(|c| c.work = 92, fine, fine, fine, fine);
+    refused(|c| c.work = 95, fine, fine, fine, fine);
     for length in [0, 8, 10] {
         refused(|c| c.cameras = length, three, fine, fine, fine);
     }
@@ -506,14 +506,14 @@ fn lengths_of_outputs() {
 #[test]
 fn lengths_of_reports() {
     let (three, fine) = ((3, 0), ANSWERED);
-    for length in [0, 1, 2, 4, 5] {
+    for length in [0, 1, 2, 3, 5] {
         refused(|c| c.solve_report = length, three, fine, fine, fine);
     }
     for length in [0, 2, 3, 4, 5] {
         refused(|c| c.report = length, fine, three, three, three);
         let both = |c: &mut Case| {
             c.report = length;
-            c.solve_report = 5 - length;
+            c.solve_report = 6 - length;
         };
         // 1 and 2 come first
         all_tell(
@@ -532,7 +532,7 @@ fn lengths_of_reports() {
         );
     }
     // 4 to 8 and 23 come later
-    for length in [0, 2, 4] {
+    for length in [0, 2, 3] {
         let both = |c: &mut Case| {
             c.report = length;
             c.solve_report = length;
@@ -702,20 +702,20 @@ fn work_lengths() {
         let code = ffi::work_length(counts, route, limit, report.get_mut());
         (code, report.told(code, 1))
     };
-    assert_eq!(length(3, 2, 3, 2, 3, 2, 1), (0, 92));
-    assert_eq!(length(3, 2, 3, 2, 1, 2, 1), (0, 92));
-    assert_eq!(length(3, 2, 3, 2, 3, 1, 1), (0, 82));
-    assert_eq!(length(3, 2, 3, 2, 2, 2, 1), (0, 82));
-    assert_eq!(length(3, 2, 3, 2, 0, 2, 1), (0, 82));
-    assert_eq!(length(3, 2, 3, 2, 3, 257, 1), (0, 82));
+    assert_eq!(length(3, 2, 3, 2, 3, 2, 1), (0, 95));
+    assert_eq!(length(3, 2, 3, 2, 1, 2, 1), (0, 95));
+    assert_eq!(length(3, 2, 3, 2, 3, 1, 1), (0, 85));
+    assert_eq!(length(3, 2, 3, 2, 2, 2, 1), (0, 85));
+    assert_eq!(length(3, 2, 3, 2, 0, 2, 1), (0, 85));
+    assert_eq!(length(3, 2, 3, 2, 3, 257, 1), (0, 85));
     for room in [0, 2, 3] {
         assert_eq!(length(3, 2, 3, 2, 3, 2, room), (3, 0));
         assert_eq!(length(0, 2, 3, 2, 3, 2, room), (1, 0));
         assert_eq!(length(3, 65537, 3, 2, 3, 2, room), (2, 0));
     }
-    let full = 23 * 4096 + 4 * 65536 + 262144 + 65536;
+    let full = 24 * 4096 + 4 * 65536 + 262144 + 65536;
     assert_eq!(length(4096, 65536, 262144, 65536, 3, 256, 1), (0, full));
-    assert_eq!(length(257, 0, 0, 0, 3, 256, 1), (0, 23 * 257 + 65536 + 768));
+    assert_eq!(length(257, 0, 0, 0, 3, 256, 1), (0, 24 * 257 + 65536 + 768));
     assert_eq!(length(0, 2, 3, 2, 3, 2, 1), (1, 0));
     assert_eq!(length(usize::MAX, 2, 3, 2, 3, 2, 1), (1, 0));
     assert_eq!(length(3, 65537, 3, 2, 3, 2, 1), (2, 0));

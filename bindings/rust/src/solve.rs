@@ -30,6 +30,9 @@ pub struct Report {
     pub route: Route,
     /// The rounds of the iterative route; 0 where dense answered.
     pub rounds: usize,
+    /// How many cameras, the anchor among them, have fewer than two rows. A bearing on a point whose weight is below 1e-12 is not counted, a
+    /// direction is counted at both of its ends.
+    pub few: usize,
 }
 
 /// An accepted placement.
@@ -45,6 +48,8 @@ pub struct Placement {
     pub route: Route,
     /// The rounds of the iterative route; 0 where dense answered.
     pub rounds: usize,
+    /// How many cameras have fewer than two rows, as of [`Report::few`].
+    pub few: usize,
 }
 
 /// Buffers that solves and graph calls work in. They grow as needed and are kept, so that calls after the first on networks of one size
@@ -141,6 +146,7 @@ pub fn solve(
         anchor: report.anchor,
         route: report.route,
         rounds: report.rounds,
+        few: report.few,
     })
 }
 
@@ -159,7 +165,7 @@ pub fn solve_into(
 ) -> Result<Report, Error> {
     let counts = network.counts();
     let length = work_length(counts, route, dense_limit)?;
-    let mut report = [0; 3];
+    let mut report = [0; 4];
     let solved = Solved {
         work: workspace.work(length),
         cameras: cameras.as_flattened_mut(),
@@ -174,7 +180,7 @@ pub fn solve_into(
         ];
         return Err(Error::of_lengths(code, report[0], counts, &slices));
     }
-    let [anchor, answered, rounds] = report;
+    let [anchor, answered, rounds, few] = report;
     let route = match answered {
         1 => Route::Dense,
         2 => Route::Iterative,
@@ -184,5 +190,6 @@ pub fn solve_into(
         anchor,
         route,
         rounds,
+        few,
     })
 }

@@ -32,6 +32,7 @@ fn whole_case() {
             anchor: 0,
             route: Route::Iterative,
             rounds: 0,
+            few: 1,
         }
     );
     assert_eq!(all_bits(placement.cameras.as_flattened()), [0; 3]);
@@ -50,6 +51,30 @@ fn light_sights() {
         let lighter = placed(&sight(9.99e-13, 1.0), route, 48).unwrap();
         assert_eq!(lighter.points, [FIVE]);
     }
+}
+
+/// Cameras of fewer than two rows, the same on every route.
+#[test]
+fn few() {
+    let few = |network: &Network| ROUTES.map(|route| placed(network, route, 48).unwrap().few);
+    assert_eq!(few(&network(3, &[], &[], &[])), [3; 3]);
+    // a direction at both of its ends, also with weight 0; a row given twice counts twice
+    let (once, idle) = ((0, 1, X, 1.0, 1.0), (0, 1, X, 0.0, 1.0));
+    assert_eq!(few(&network(2, &[], &[once], &[])), [2; 3]);
+    assert_eq!(few(&network(2, &[], &[once, once], &[])), [0; 3]);
+    assert_eq!(few(&network(2, &[], &[once, idle], &[])), [0; 3]);
+    assert_eq!(
+        few(&network(3, &[], &[once, once, (1, 2, X, 1.0, 1.0)], &[])),
+        [1; 3]
+    );
+    // bearings of points at 1e-12 and just below; the weights of two bearings add up
+    let sights = |point, weight| {
+        let bearings = [(0, 0, Z, weight, 1.0), (0, point, Z, weight, 1.0)];
+        network(1, &bearings, &[], &[FIVE, FIVE])
+    };
+    assert_eq!(few(&sights(1, 1e-12)), [0; 3]);
+    assert_eq!(few(&sights(1, 9.99e-13)), [1; 3]);
+    assert_eq!(few(&sights(0, 9.99e-13)), [0; 3]);
 }
 
 #[test]
@@ -230,7 +255,7 @@ fn work_lengths() {
         bearings: 7,
         directions: 11,
     };
-    let base = |n: usize| 23 * n + 20 + 18;
+    let base = |n: usize| 24 * n + 20 + 18;
     assert_eq!(work_length(counts(4), Route::Iterative, 3), Ok(base(4)));
     assert_eq!(work_length(counts(4), Route::Dense, 3), Ok(base(4) + 18));
     assert_eq!(work_length(counts(4), Route::Dense, 2), Ok(base(4)));
@@ -272,8 +297,8 @@ fn into_the_callers_buffers() {
     assert_eq!((cameras, points), ([[7.0; 3]; 2], [[7.0; 3]; 2]));
     let report = run(&mut cameras[..1], &mut points[..1]).unwrap();
     assert_eq!(
-        (report.anchor, report.route, report.rounds),
-        (0, Route::Iterative, 0)
+        (report.anchor, report.route, report.rounds, report.few),
+        (0, Route::Iterative, 0, 1)
     );
     assert_eq!(cameras, [[0.0; 3], [7.0; 3]]);
     assert_eq!(points, [[0.0, 0.0, 2.0], [7.0; 3]]);

@@ -177,6 +177,7 @@ fn placed(bytes: &[u8]) -> Result<String, Error> {
     let route = route.number();
     writeln!(text, "parts {}", parts.count).unwrap();
     writeln!(text, "anchor {anchor} route {route} rounds {rounds}").unwrap();
+    writeln!(text, "few {}", placement.few).unwrap();
     for (kind, positions) in [("c", placement.cameras), ("p", placement.points)] {
         for (number, [x, y, z]) in positions.into_iter().enumerate() {
             let [x, y, z] = [bits(x), bits(y), bits(z)];
@@ -193,6 +194,7 @@ fn program_on_the_whole_case() {
 cameras 1 points 1 bearings 1 directions 0
 parts 1
 anchor 0 route 2 rounds 0
+few 1
 c 0 0000000000000000 0000000000000000 0000000000000000
 p 0 0000000000000000 0000000000000000 4000000000000000
 ";

@@ -142,7 +142,7 @@ fn limits() {
     };
     let length = |counts| work_length(counts, Route::Iterative, MAX_DENSE_LIMIT);
     let rows = MAX_BEARINGS + MAX_DIRECTIONS;
-    assert_eq!(length(counts), Ok(23 * MAX_CAMERAS + 4 * MAX_POINTS + rows));
+    assert_eq!(length(counts), Ok(24 * MAX_CAMERAS + 4 * MAX_POINTS + rows));
     let mut more = [counts; 4];
     more[0].cameras += 1;
     more[1].points += 1;

@@ -80,6 +80,7 @@ fn replay(case: &Case, workspace: &mut Workspace) -> usize {
                 placement.anchor,
                 placement.route.number(),
                 placement.rounds,
+                placement.few,
             ];
             assert_eq!(answer, report);
             for (name, positions) in [("cameras", placement.cameras), ("placed", placement.points)]

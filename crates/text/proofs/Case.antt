@@ -1,4 +1,4 @@
--- What the definitions of the texts compute to. (Document 01, 'Network image (added) and the solve program'.)
+-- What the definitions of the texts compute to. (Document 01, 'Network image (added) and the solve program'; document 02, R-11.)
 -- Assumes nothing.
 use mathlib.Core.Path.{_≡_, refl}
 use mathlib.Core.List.{List, [], _∷_, _++_}
@@ -8,13 +8,14 @@ use lib.ListN.{length}
 use lib.Ieee.{nan, binary64, ofBits, toBits, size}
 use Rattle.field.specs.declared.Vec3.{Vec3}
 use Rattle.field.specs.Vec.{origin, null}
-use Rattle.text.specs.Text.{ascii, digit, hex, digits, decimal, bits, named, spaced, coordinates, vectorLine, numbered, vectorLines, countsLine, partsLine, reportLine, placedText, refusedText}
+use Rattle.text.specs.Text.{ascii, digit, hex, digits, decimal, bits, named, spaced, coordinates, vectorLine, numbered, vectorLines}
+use Rattle.text.specs.Text.{countsLine, partsLine, reportLine, fewLine, placedText, refusedText}
 
--- the whole case prints exactly its five lines
-pub whole-case : placedText 1 1 1 0 1 0 2 0 (origin ∷ []) (record { x = null; y = null; z = ofBits binary64 0x4000000000000000 } ∷ []) ≡
-    ascii "cameras 1 points 1 bearings 1 directions 0\nparts 1\nanchor 0 route 2 rounds 0\n" ++
+-- the whole case prints exactly its five lines, and `few 1` after the report's
+pub whole-case : placedText 1 1 1 0 1 0 2 0 1 (origin ∷ []) (record { x = null; y = null; z = ofBits binary64 0x4000000000000000 } ∷ []) ≡
+    ascii "cameras 1 points 1 bearings 1 directions 0\nparts 1\nanchor 0 route 2 rounds 0\nfew 1\n" ++
     ascii "c 0 0000000000000000 0000000000000000 0000000000000000\np 0 0000000000000000 0000000000000000 4000000000000000\n"
-unfolding ascii digit hex digits decimal bits named spaced coordinates vectorLine numbered vectorLines countsLine partsLine reportLine placedText toBits ofBits size
+unfolding ascii digit hex digits decimal bits named spaced coordinates vectorLine numbered vectorLines countsLine partsLine reportLine fewLine placedText toBits ofBits size
 whole-case = refl
 
 -- a refusal
@@ -33,9 +34,10 @@ unfolding ascii digit hex digits decimal
 all-digits = refl
 
 -- no text is empty, so an answer of 0 bytes says that there was no room
-pub placed-some : (n m b e parts anchor route rounds : ℕ) (cameras points : List Vec3) → 0 < length (placedText n m b e parts anchor route rounds cameras points)
+pub placed-some : (n m b e parts anchor route rounds few : ℕ) (cameras points : List Vec3) →
+    0 < length (placedText n m b e parts anchor route rounds few cameras points)
 unfolding ascii named countsLine placedText
-placed-some n m b e parts anchor route rounds cameras points = omega arith
+placed-some n m b e parts anchor route rounds few cameras points = omega arith
 
 pub refused-some : (number place : ℕ) → 0 < length (refusedText number place)
 unfolding ascii named refusedText

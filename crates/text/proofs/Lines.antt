@@ -80,6 +80,11 @@ pub counts-put : (l l₁ l₂ l₃ : List ℕ) (p p₁ p₂ p₃ : ℕ) (a b c d
     Put l l₁ p (a ++ b) 56 p₁ → Put l₁ l₂ p₁ (c ++ d) 62 p₂ → Put l₂ l₃ p₂ e 1 p₃ → Put l l₃ p (a ++ b ++ c ++ d ++ e) 119 p₃
 counts-put l l₁ l₂ l₃ p p₁ p₂ p₃ a b c d e x y z = rw (← append-assoc (a ++ b) c d) at (put-three x y z refl)
 
+-- the lines above those of the vectors
+pub head-put : (l l₁ l₂ l₃ l₄ : List ℕ) (p p₁ p₂ p₃ p₄ : ℕ) (a b c d : List ℕ) →
+    Put l l₁ p a 119 p₁ → Put l₁ l₂ p₁ b 27 p₂ → Put l₂ l₃ p₂ c 83 p₃ → Put l₃ l₄ p₃ d 25 p₄ → Put l l₄ p (a ++ b ++ c ++ d) 254 p₄
+head-put l l₁ l₂ l₃ l₄ p p₁ p₂ p₃ p₄ a b c d w x y z = put-two (put-three w x y refl) z refl
+
 -- ---- a text at the front of a buffer
 
 -- what the test for room shows
@@ -94,7 +99,7 @@ put-no-room v l text t e h = rw (← e, h) (put-none l 0 (length l))
 
 -- the lines above those of the vectors, then the cameras' and the points'
 pub lines-put : (a b : ℕ) (l l₁ l₂ l₃ head cs ps : List ℕ) (p₁ p₂ p₃ : ℕ) → room (a + b) ≤ length l →
-    Put l l₁ 0 head 229 p₁ → Put l₁ l₂ p₁ cs (74 * a) p₂ → Put l₂ l₃ p₂ ps (74 * b) p₃ → PutIfRoom l l₃ (a + b) (head ++ cs ++ ps) p₃
+    Put l l₁ 0 head 254 p₁ → Put l₁ l₂ p₁ cs (74 * a) p₂ → Put l₂ l₃ p₂ ps (74 * b) p₃ → PutIfRoom l l₃ (a + b) (head ++ cs ++ ps) p₃
 lines-put a b l l₁ l₂ l₃ head cs ps p₁ p₂ p₃ h x y z = put-room (a + b) l l₃ _ _ p₃ h (put-three x y z refl) (omega arith)
 
 -- the two numbers of a refusal and a newline

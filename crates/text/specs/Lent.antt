@@ -33,9 +33,10 @@ fitting vectors out text = cond (leb (room vectors) (length out)) text []
 abbrev pub PutIfRoom : (before after : List ℕ) → (vectors : ℕ) → (text : List ℕ) → (r : ℕ) → Type 0
 PutIfRoom before after vectors text r = Put before after 0 (fitting vectors before text) (length before) r
 
--- What `put_placed` promises: c and p are the numbers of the lines of the counts and of the report, and cs and ps hold the vectors' numbers.
+-- What `put_placed` promises: c has the numbers of the line of the counts, p those of the report, and cs and ps hold the vectors' numbers.
 abbrev pub PutPlaced : (c : Counts) (parts : ℕ) (p : Report) (cs ps : List Float) → (before after : List ℕ) → (r : ℕ) → Type 0
 PutPlaced c parts p cs ps before after r =
     PutIfRoom before after (length cs / 3 + length ps / 3)
-    (placedText (c .cameras) (c .points) (c .bearings) (c .directions) parts (p .anchor) (p .route) (p .rounds) (vectorsIn cs) (vectorsIn ps))
+    (placedText (c .cameras) (c .points) (c .bearings) (c .directions) parts (p .anchor) (p .route) (p .rounds) (p .few)
+    (vectorsIn cs) (vectorsIn ps))
     r

@@ -1,4 +1,4 @@
--- What the solve program prints, as lists of bytes. (Document 01, 'Network image (added) and the solve program'.)
+-- What the solve program prints, as lists of bytes. (Document 01, 'Network image (added) and the solve program'; document 02, R-11.)
 use mathlib.Core.List.{List, [], _∷_, _++_}
 use mathlib.Core.Bool.{Bool, true, false, cond}
 use Prim.Native.Nat.{ℕ, zero, suc, _+_, _/_, _%_}
@@ -78,10 +78,15 @@ partsLine parts = named (ascii "parts ") parts ++ newline
 unfoldable pub reportLine : (anchor route rounds : ℕ) → List ℕ
 reportLine anchor route rounds = named (ascii "anchor ") anchor ++ named (ascii " route ") route ++ named (ascii " rounds ") rounds ++ newline
 
--- what a solve that is not refused prints: 'counts; number of parts; the report; each camera, then each point'
-unfoldable pub placedText : (n m b e parts anchor route rounds : ℕ) → (cameras points : List Vec3) → List ℕ
-placedText n m b e parts anchor route rounds cameras points =
-    countsLine n m b e ++ partsLine parts ++ reportLine anchor route rounds ++ vectorLines (code "c") cameras ++ vectorLines (code "p") points
+-- 'prints `few K` after the report line' (document 02, R-11): the line `few 1`
+unfoldable pub fewLine : ℕ → List ℕ
+fewLine few = named (ascii "few ") few ++ newline
+
+-- what a solve that is not refused prints: 'counts; number of parts; the report', `few K`, 'each camera, then each point'
+unfoldable pub placedText : (n m b e parts anchor route rounds few : ℕ) → (cameras points : List Vec3) → List ℕ
+placedText n m b e parts anchor route rounds few cameras points =
+    countsLine n m b e ++ partsLine parts ++ reportLine anchor route rounds ++ fewLine few ++
+    vectorLines (code "c") cameras ++ vectorLines (code "p") points
 
 -- 'A refusal prints only `refused N place P`.'
 unfoldable pub refusedText : (number place : ℕ) → List ℕ

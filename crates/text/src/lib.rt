@@ -3,14 +3,14 @@ use double::to_bits;
 use field::Vec3;
 use field::get3;
 ghost use mathlib.Core.Path.{_≡_};
-ghost use mathlib.Core.List.{[], _∷_, _++_};
+ghost use mathlib.Core.List.{[], _∷_};
 ghost use Prim.Native.Nat.{_+_, _/_, _≤_, _<_};
 ghost use lib.Dec.{leb};
 ghost use lib.ListN.{length};
 ghost use Rattle.field.specs.Buffer.{vectorsIn};
-ghost use Rattle.text.specs.Text.{digit, hex, decimal, spaced, named, coordinates, vectorLine, vectorLines, partsLine, refusedText};
+ghost use Rattle.text.specs.Text.{digit, hex, decimal, spaced, named, coordinates, vectorLine, vectorLines, refusedText};
 ghost use Rattle.text.specs.Lent.{Put, PutIfRoom, PutPlaced, room};
-ghost use Rattle.text.specs.inner.Steps.{PutPair, countsOf, reportOf, lineRoom};
+ghost use Rattle.text.specs.inner.Steps.{PutPair, PutNumberLine, countsOf, reportOf, headOf, lineRoom};
 
 // The numbers of the first line.
 pub struct Counts {
@@ -20,11 +20,12 @@ pub struct Counts {
     pub directions: usize,
 }
 
-// The numbers of the line of the report.
+// The numbers of the line of the report, and that of the line after it: how many cameras have a count of rows under 2.
 pub struct Report {
     pub anchor: usize,
     pub route: usize,
     pub rounds: usize,
+    pub few: usize,
 }
 
 // A byte. Each `put_` writes from place `at` on, and answers the place after what it wrote.
@@ -112,6 +113,15 @@ fn put_pair(out: &mut [u8], at: usize, one: &[u8], x: usize, two: &[u8], y: usiz
     put_named(out, next, two, y)
 }
 
+// A line of a label and a number.
+fn put_number_line(out: &mut [u8], at: usize, label: &[u8], x: usize) -> usize
+    requires { ⌜ at + (length (now label) + 20 + 1) ≤ length (now out) ⌝ }
+    ensures { λ r. ⌜ PutNumberLine (now (label .entry)) x (now (out .entry)) (now (out .exit)) at r ⌝ }
+{
+    let next = put_named(out, at, label, x);
+    put_byte(out, next, b'\n')
+}
+
 // The bits of x, y and z.
 fn put_coordinates(out: &mut [u8], at: usize, v: Vec3) -> usize
     requires { ⌜ at + 51 ≤ length (now out) ⌝ }
@@ -172,15 +182,6 @@ fn put_counts(out: &mut [u8], at: usize, counts: Counts) -> usize
     put_byte(out, next, b'\n')
 }
 
-// The line of the number of parts.
-fn put_parts(out: &mut [u8], at: usize, parts: usize) -> usize
-    requires { ⌜ at + 27 ≤ length (now out) ⌝ }
-    ensures { λ r. ⌜ Put (now (out .entry)) (now (out .exit)) at (partsLine parts) 27 r ⌝ }
-{
-    let next = put_named(out, at, b"parts ", parts);
-    put_byte(out, next, b'\n')
-}
-
 // The line of the report.
 fn put_report(out: &mut [u8], at: usize, report: Report) -> usize
     requires { ⌜ at + 83 ≤ length (now out) ⌝ }
@@ -193,12 +194,13 @@ fn put_report(out: &mut [u8], at: usize, report: Report) -> usize
 
 // The lines above those of the vectors.
 fn put_head(out: &mut [u8], at: usize, counts: Counts, parts: usize, report: Report) -> usize
-    requires { ⌜ at + 229 ≤ length (now out) ⌝ }
-    ensures { λ r. ⌜ Put (now (out .entry)) (now (out .exit)) at (countsOf counts ++ partsLine parts ++ reportOf report) 229 r ⌝ }
+    requires { ⌜ at + 254 ≤ length (now out) ⌝ }
+    ensures { λ r. ⌜ Put (now (out .entry)) (now (out .exit)) at (headOf counts parts report) 254 r ⌝ }
 {
     let next = put_counts(out, at, counts);
-    let next = put_parts(out, next, parts);
-    put_report(out, next, report)
+    let next = put_number_line(out, next, b"parts ", parts);
+    let next = put_report(out, next, report);
+    put_number_line(out, next, b"few ", report.few)
 }
 
 // All lines of a solve that is not refused, where there is room for them.
