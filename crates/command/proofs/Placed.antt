@@ -31,7 +31,7 @@ use Rattle.lists.proofs.Sorting.{offsets-table, listed-placed}
 use Rattle.lists.proofs.Holding.{sorted-holds}
 use Rattle.layout.specs.Image.{content}
 use Rattle.command.specs.declared.Printed.{Printed}
-use Rattle.command.specs.Command.{lines, networkOf, ending, CamerasMeant, ImageSolved, Prints}
+use Rattle.command.specs.Command.{placedLines, lines, networkOf, ending, CamerasMeant, ImageSolved, Prints}
 use Rattle.command.specs.inner.Steps.{Small, ContentSound, Listed, BuffersSized, PartCount, textOf, AnsweredAs, SolvedAs}
 use Rattle.command.proofs.Printing.{vectors-flat, prints-as}
 use Rattle.command.proofs.Passing.{fits, ends-passed}
@@ -69,7 +69,12 @@ cameras-meant (placed route rounds cameras) net parts cs cs' f h p e m =
     let q : report net route rounds ≡ p = cc in
     let n : length cameras ≡ net .shape .cameras = omega (arith, ap length f, length-flat vector vector-lawful cameras) in
     let c : load vector cs' 0 (net .shape .cameras) ≡ cameras = rw f (load-flat vector vector-lawful cameras (net .shape .cameras) n) in
-    record { cameras = cameras; printed = rw q; anchor = m .0; meaning = rw c at (m .1) }
+    record {
+      cameras = cameras;
+      printed = ap (λ (r : Report). placedLines (net .shape) parts r cameras (pointsOf net cameras)) q;
+      anchor = m .0;
+      meaning = rw c at (m .1);
+    }
 
 module _ (s : Shape) (es : List ℕ) (rs ws ss ps : List Float) (C : ContentSound (content s es rs ws ss ps)) where
   net : Network
