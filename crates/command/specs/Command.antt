@@ -81,8 +81,8 @@ lines net parts (rejected r) = refusedLine r
 lines net parts (failing r) = refusedLine r
 lines net parts (placed route rounds cameras) = placedLines (net .shape) parts (report net route rounds) cameras (pointsOf net cameras)
 
--- Demand 3, of what is printed. The text has the bits of these cameras, and of them, the anchor and the rounds that the report p has all of the demand
--- is true: `Meaning` has a field for each clause. (`problem` is the system that the network forms.)
+-- Demand 3, of what is printed. The text has the bits of these cameras, and of them and the report p all of the demand is true: `Meaning` has a field
+-- for each clause. (`problem` is the system that the network forms.)
 pub record CamerasMeant (net : Network) (parts : ℕ) (p : Report) (text : List ℕ) : Type 0 where
   pub cameras : List Vec3
   pub printed : text ≡ placedLines (net .shape) parts p cameras (pointsOf net cameras)

@@ -1,8 +1,8 @@
 -- How many rows hold each camera (document 02, R-11): 'a count of rows that entered its diagonal: a bearing on a point not below 1e-12, a direction
 -- always', in whole numbers.
 --
--- For planners: a camera with a count under 2 hangs by one row or none; `few` is how many there are. A row that is listed twice counts twice, as it is
--- added twice. Proved: `row-counts` of proofs/Counts.
+-- For planners: a camera with a count under 2 is held by one row or none; `few` is how many there are. A row that is given twice counts twice, as it
+-- is added twice. Proved: `row-counts` of proofs/Counts.
 use Prim.Native.Nat.{ℕ, _+_, _*_, _<_}
 use mathlib.Core.Path.{_≡_}
 use mathlib.Core.List.{List}
