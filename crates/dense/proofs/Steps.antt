@@ -3,23 +3,23 @@ use mathlib.Core.Path.{_≡_, refl, sym, ap, _∙_}
 use mathlib.Core.List.{List}
 use mathlib.Core.Bool.{Bool, true, false, cond}
 use Prim.Native.Nat.{ℕ, _+_, _-_, _*_, _≤_, _<_}
-use native.Mathlib.Nat.{zero-add}
 use native.Mathlib.Omega.{arith}
 use lib.ListN.{length, getD, set, replicate, length-set, length-replicate}
 use lib.Ieee.{Float, nan, binary64, add, neg, lt}
 use borrow.Rule.Slice.PartMut.{putMid, midOf}
 use Rattle.field.specs.Vec.{null}
 use Rattle.field.specs.Buffer.{part, get, write, load}
-use Rattle.field.proofs.Buffers.{length-part, write-part, at-load}
+use Rattle.field.proofs.Buffers.{length-part, write-part}
 use Rattle.network.specs.declared.Shape.{Shape}
 use Rattle.network.specs.declared.Span.{Span}
 use Rattle.network.specs.Network.{Links, links, rows, firstEnd, secondEnd, spanOf, rowAt}
 use Rattle.network.specs.inner.Sound.{ListedSound, LinksSound}
 use Rattle.network.proofs.Sound.{span-in}
 use Rattle.system.specs.declared.CameraTerm.{CameraTerm}
-use Rattle.system.specs.System.{Weights, tiny, ridge, noTerm, termAt}
+use Rattle.system.specs.System.{Weights, tiny, ridge, termAt}
 use Rattle.system.specs.Work.{matrixAt, denseRightAt, workEnd, term, termPlace}
 use Rattle.system.specs.inner.Formed.{weightsIn}
+use Rattle.system.proofs.Terms.{term-here}
 use Rattle.dense.specs.declared.rows.DenseRow.{DenseRow}
 use Rattle.dense.specs.declared.rows.Row.{Row}
 use Rattle.dense.specs.declared.rows.Row.the-variants.{Anchor, Dense}
@@ -67,7 +67,7 @@ module _ (d : ℕ) where
 -- ---- a camera's term
 
 pub term-read : (l : List Float) (n c : ℕ) (t : CameraTerm) → c < n → t ≡ get term l (termPlace c) → termAt (load term l 0 n) c ≡ t
-term-read l n c t h e = at-load term l 0 n c noTerm h ∙ rw zero-add (sym e)
+term-read l n c t h e = sym (e ∙ term-here l n c h)
 
 -- ---- each step keeps the matrix's size and reads the weights of rows and points that there are
 

@@ -1,8 +1,8 @@
 -- Whole numbers up to 2 ^ prec are counted and compared without rounding. Assumes nothing.
-use mathlib.Core.Path.{_≡_, refl, sym, ap, ap₂, _∙_}
-use mathlib.Core.Bool.{Bool, true, false, true≢false}
+use mathlib.Core.Path.{_≡_, sym, ap, ap₂, _∙_}
+use mathlib.Core.Bool.{true, false, true≢false}
 use Prim.Native.Nat.{ℕ, suc, _+_, _*_, _^_, _≤_}
-use native.Mathlib.Nat.{mul-one, one-mul, mul-assoc, mul-comm, mul-pos, mul-right-comm, zero-lt-suc, suc-mul}
+use native.Mathlib.Nat.{mul-one, one-mul, mul-assoc, mul-pos, mul-right-comm, zero-lt-suc, suc-mul}
 use lib.Dec.{ltb}
 use lib.IntN.{pos}
 use lib.Ieee.{Float, nan, inf, fin, Format, prec, up, down, add, sum, lt, ofInt}

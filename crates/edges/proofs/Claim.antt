@@ -1,15 +1,14 @@
 -- Every row of the table holds: by computing, or by what the crates below computed. Assumes nothing.
 use mathlib.Core.Path.{_≡_, refl, ap, _∙_}
-use mathlib.Core.List.{List, [], _∷_}
+use mathlib.Core.List.{[], _∷_}
 use lib.Ieee.{Float, toBits}
 use Rattle.sqrt.specs.Root.{root}
-use Rattle.field.specs.declared.Vec3.{Vec3}
 use Rattle.field.specs.Vec.{origin}
 use Rattle.field.specs.Buffer.{flat, vector}
 use Rattle.network.proofs.Computing.{refusals}
 use Rattle.graph.proofs.Edges.{two-parts, two-labels}
 use Rattle.system.specs.Work.{workLength}
-use Rattle.system.specs.Edges.{single, directed, pair, triple}
+use Rattle.system.specs.Edges.{single, directed, triple}
 use Rattle.system.proofs.Computing.{counts}
 use Rattle.system.proofs.Edges.{faint-mean, faint-right}
 use Rattle.recover.specs.Recover.{pointsOf}

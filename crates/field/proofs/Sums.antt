@@ -1,7 +1,7 @@
 -- Laws of sums of whole numbers, and of how many have a property. Assumes nothing.
 use mathlib.Core.Path.{_≡_, refl, sym, ap, ap₂, _∙_}
 use mathlib.Core.Logic.{⊎-elim}
-use mathlib.Core.Bool.{Bool, true, false, cond}
+use mathlib.Core.Bool.{Bool, true, false}
 use Prim.Native.Nat.{ℕ, zero, suc, _+_, _*_, _≤_, _<_}
 use native.Mathlib.Nat.{add-zero, add-suc, mul-zero, mul-suc, zero-mul, eq-or-lt-of-le, le-of-suc-le-suc}
 use native.Mathlib.Numerals.{add-one}
@@ -55,6 +55,10 @@ sum-bound g a (suc k) h = let e = sum-bound g a k h in omega (arith, h k, mul-su
 
 -- ---- how many
 
+pub indicator-most : (b : Bool) → indicator b ≤ 1
+indicator-most true = omega arith
+indicator-most false = omega arith
+
 pub count-none : (p : ℕ → Bool) → countBelow p 0 ≡ 0
 unfolding countBelow
 count-none p = sum-none (λ i. indicator (p i))
@@ -66,14 +70,6 @@ count-more p i k c e f = rw (add-one, sum-suc, e, f)
 pub count-ext : (p q : ℕ → Bool) (k : ℕ) → ((i : ℕ) → i < k → p i ≡ q i) → countBelow p k ≡ countBelow q k
 unfolding countBelow
 count-ext p q k e = sum-ext (λ i. indicator (p i)) (λ i. indicator (q i)) k (λ i l. ap indicator (e i l))
-
-pub count-bound : (p : ℕ → Bool) (k : ℕ) → countBelow p k ≤ k
-unfolding countBelow
-count-bound p k = let e = sum-bound (λ i. indicator (p i)) 1 k (λ i. most (p i)) in omega arith
-  where
-    most : (b : Bool) → indicator b ≤ 1
-    most true = omega arith
-    most false = omega arith
 
 -- one of 0, .. n - 1 is a
 none-before : (a n : ℕ) → n ≤ a → sumBelow (λ i. indicator (eqb a i)) n ≡ 0

@@ -21,6 +21,7 @@ use Rattle.field.specs.declared.Vec3.{Vec3}
 use Rattle.system.specs.System.{noTerm, termAt, diagonalOf}
 use Rattle.system.specs.Work.{term, termPlace}
 use Rattle.system.specs.declared.CameraTerm.{CameraTerm}
+use Rattle.system.proofs.Terms.{term-here}
 use Rattle.iterative.specs.Method.{badDiagonal, difference, differenceEntry, preconditionedEntry, searchEntry, searchField, searchStep, stepped, steppedEntry}
 use Rattle.iterative.specs.Method.{zeros}
 use Rattle.iterative.specs.Problem.{dotStep, fieldDot, times}
@@ -29,9 +30,6 @@ use Rattle.iterative.specs.declared.Active.{Active}
 use Rattle.iterative.specs.inner.Solver.{TurnPreconditioned, TurnStepped, diagonalIn}
 
 -- ---- the camera terms, in a buffer that no loop has changed and behind which a field is stored
-
-term-here : (l : List Float) (n i : ℕ) → i < n → get term l (termPlace i) ≡ termAt (load term l 0 n) i
-term-here l n i h = rw zero-add at (sym (at-load term l 0 n i noTerm h))
 
 pub diagonal-here : (l : List Float) (n i : ℕ) → i < n → diagonalIn l i ≡ diagonalOf (load term l 0 n) i
 unfolding diagonalOf

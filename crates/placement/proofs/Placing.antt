@@ -23,11 +23,11 @@ use Rattle.network.specs.Refusals.{verdict, countTests, lengthTests, networkFit
 use Rattle.network.proofs.Verdicts.{both-passed, passes-in, stage-passed}
 use Rattle.network.proofs.Sound.{fit-lengths, lengths-fit, network-fits, route-sound, tests-sound}
 use Rattle.system.specs.System.{anchor, sumsFrom, terms, weightsOf}
-use Rattle.system.specs.Counts.{few, fewIn}
+use Rattle.system.specs.Counts.{few}
 use Rattle.system.specs.Work.{matrixAt, term, termPlace, workLength}
 use Rattle.system.specs.declared.CameraTerm.{CameraTerm}
 use Rattle.system.proofs.Counts.{few-counted}
-use Rattle.system.specs.inner.Formed.{Formed, RowsThere, Segments, positionsIn, weightsIn}
+use Rattle.system.specs.inner.Formed.{Formed, RowsThere, Segments, fewIn, positionsIn, weightsIn}
 use Rattle.recover.specs.Recover.{pointsBy}
 use Rattle.recover.proofs.Points.{points-recovered}
 use Rattle.iterative.specs.Method.{Ending, accepted, refused, solution}

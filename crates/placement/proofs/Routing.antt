@@ -14,10 +14,8 @@ use Rattle.network.specs.declared.Refusal.{Refusal}
 use Rattle.network.specs.declared.Shape.{Shape}
 use Rattle.network.specs.Network.{links}
 use Rattle.network.specs.Refusals.{badRoute, denseRows}
-use Rattle.system.specs.System.{Weights}
 use Rattle.system.specs.Work.{matrixAt, term, weightsAt, workEnd, workLength}
-use Rattle.system.specs.declared.CameraTerm.{CameraTerm}
-use Rattle.system.specs.inner.Formed.{Segments, positionsIn, weightsIn}
+use Rattle.system.specs.inner.Formed.{positionsIn, weightsIn}
 use Rattle.system.proofs.Segments.{work-length-is}
 use Rattle.operator.proofs.Buffered.{weights-kept}
 use Rattle.iterative.specs.declared.Outcome.{Outcome}
@@ -26,17 +24,17 @@ use Rattle.iterative.specs.Method.{Ending, State, accepted, refused, solution}
 use Rattle.iterative.specs.Problem.{Problem}
 use Rattle.iterative.specs.Reduced.{problemBy}
 use Rattle.field.specs.Buffer.{load}
-use Rattle.iterative.specs.inner.Solver.{IterativeSolved, Outside, answerOf}
+use Rattle.iterative.specs.inner.Solver.{IterativeSolved, answerOf}
 use Rattle.iterative.proofs.Kept.{segments-outside}
 use Rattle.cholesky.specs.declared.Solve.{Solve}
 use Rattle.cholesky.specs.declared.Solve.the-variants.{Done, Stopped}
-use Rattle.cholesky.specs.Cholesky.{Result, done, stopped, ended}
+use Rattle.cholesky.specs.Cholesky.{Result, ended}
 use Rattle.dense.specs.Dense.{dimension}
 use Rattle.dense.specs.inner.Held.{DenseSolved}
 use Rattle.dense.proofs.Solving.{segments-kept}
 use Rattle.placement.specs.declared.routes.Ended.{Ended}
 use Rattle.placement.specs.declared.routes.Ended.the-variants.{Failed, Placed}
-use Rattle.placement.specs.Routes.{Placement, placed, failing, failingAt, byDense, denseOr, byIterative, fallBack, routedBy}
+use Rattle.placement.specs.Routes.{Placement, placed, failingAt, byDense, denseOr, byIterative, fallBack, routedBy}
 use Rattle.placement.specs.inner.Routing.{RouteReady, Routed, afterRefusal, denseIn, endedWith, iterativeIn}
 
 -- ---- the length of the work buffer

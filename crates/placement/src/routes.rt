@@ -5,7 +5,6 @@ use iterative::Outcome;
 use iterative::solve_iterative;
 use network::Refusal;
 use network::Shape;
-ghost use mathlib.Core.Path.{_≡_};
 ghost use Prim.Native.Nat.{_≤_, _<_};
 ghost use lib.Dec.{leb};
 ghost use lib.ListN.{length};

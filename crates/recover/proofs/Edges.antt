@@ -2,7 +2,6 @@
 use mathlib.Core.Path.{_≡_, refl}
 use mathlib.Core.List.{[], _∷_}
 use lib.Ieee.{Float}
-use Rattle.field.specs.declared.Vec3.{Vec3}
 use Rattle.field.specs.Vec.{null, origin}
 use Rattle.network.proofs.Computing.{refusals}
 use Rattle.system.specs.System.{tiny, one, two}

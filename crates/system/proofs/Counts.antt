@@ -2,29 +2,29 @@
 use mathlib.Core.Path.{_≡_, refl, sym, ap, ap₂, _∙_}
 use mathlib.Core.Logic.{dite}
 use mathlib.Core.List.{List}
-use mathlib.Core.Bool.{Bool, true, false, cond, not, _&&_}
+use mathlib.Core.Bool.{Bool, true, false, cond, not, _&&_, and-true, and-false}
 use Prim.Native.Nat.{ℕ, suc, _+_, _*_, _^_, _≤_, _<_}
 use native.Mathlib.Nat.{le-trans, add-zero}
 use native.Mathlib.Numerals.{add-one}
 use native.Mathlib.Decide.{ℕ-discrete}
 use native.Mathlib.Omega.{arith}
-use borrow.Author.Tests.{ltb-true, ltb-false, lt-ltb, le-ltb, eq-eqb, ne-eqb}
-use lib.Dec.{eqb, ltb, lit≤}
+use borrow.Author.Tests.{ltb-false, lt-ltb, le-ltb, eq-eqb, ne-eqb}
+use lib.Dec.{eqb, lit≤}
 use lib.IntN.{pos}
-use lib.ListN.{length, getD, set, length-set}
+use lib.ListN.{length, set, length-set}
 use lib.Seq.{getD-set-same, getD-set-other}
 use lib.Ieee.{Float, binary64, prec, add, lt, ofInt, ofBits}
 use Rattle.double.proofs.Whole.{add-one-whole, lt-of-whole}
-use Rattle.field.specs.Vec.{null}
 use Rattle.field.specs.Count.{field, sumBelow, indicator, countBelow}
 use Rattle.field.proofs.Counting.{upto-invariant, getD-field, length-field}
-use Rattle.field.proofs.Sums.{sum-none, sum-suc, sum-ext, sum-split, sum-same, sum-zeros, sum-add, sum-swap, sum-bound, sum-one, count-ext}
+use Rattle.field.proofs.Sums.{sum-none, sum-suc, sum-ext, sum-split, sum-same, sum-zeros, sum-add, sum-swap, sum-bound, sum-one, count-ext, indicator-most}
 use Rattle.network.specs.Network.{Network, rows, firstEnd, secondEnd, isBearing}
 use Rattle.network.specs.inner.Sound.{NetworkSound}
 use Rattle.network.proofs.Sound.{tests-sound}
 use Rattle.system.specs.declared.CameraTerm.{CameraTerm}
 use Rattle.system.specs.System.{tiny, one, two, pointWeight, noTerm, sees, departs, arrives, termAt, addBearing, addDirection, assembleRow, assembleRows, terms, sumsFrom, sumsOf}
-use Rattle.system.specs.Counts.{bearingEnters, entries, rowCount, few, fewIn, RowCounts}
+use Rattle.system.specs.Counts.{bearingEnters, entries, rowCount, few, RowCounts}
+use Rattle.system.specs.inner.Formed.{fewIn}
 
 -- ---- one term's count
 
@@ -40,14 +40,6 @@ counted-once : (b : Bool) (x : Float) (k : ℕ) → k ≤ 1000000 → x ≡ whol
 unfolding ofBits
 counted-once true x k h e = rw (e, add-one) (add-one-whole binary64 k (small k h))
 counted-once false x k h e = rw add-zero e
-
-and-false : (b : Bool) → indicator (b && false) ≡ 0
-and-false true = refl
-and-false false = refl
-
-and-true : (b : Bool) → (b && true) ≡ b
-and-true true = refl
-and-true false = refl
 
 -- the counts of n terms are g's
 pub record Counted (n : ℕ) (g : ℕ → ℕ) (ts : List CameraTerm) : Type 0 where
@@ -74,10 +66,6 @@ turned : (q : Bool) (x y : Float) → cond q x y ≡ cond (not q) y x
 turned true x y = refl
 turned false x y = refl
 
-one-most : (b : Bool) → indicator b ≤ 1
-one-most true = omega arith
-one-most false = omega arith
-
 module _ (net : Network) (N : NetworkSound net) where
   abbrev n : ℕ
   n = net .shape .cameras
@@ -97,8 +85,8 @@ module _ (net : Network) (N : NetworkSound net) where
       b = eqb (secondEnd (net .ends) r) c
 
       go : (q : Bool) → cond q (indicator (bearingEnters net r && a)) (indicator a + indicator b) ≤ 2
-      go true = let h = one-most (bearingEnters net r && a) in omega arith
-      go false = let h = one-most a in let k = one-most b in omega arith
+      go true = let h = indicator-most (bearingEnters net r && a) in omega arith
+      go false = let h = indicator-most a in let k = indicator-most b in omega arith
 
   upTo-small : (k c : ℕ) → k ≤ rows (net .shape) → upTo k c + 1 ≤ 1000000
   upTo-small k c h = omega (arith, sum-bound (entries net c) 2 k (two-most c), N .links .ends .shape)
@@ -129,7 +117,7 @@ module _ (net : Network) (N : NetworkSound net) where
       go false e =
           let D = count-set n (upTo r) ts a true _ (N .links .ends .camera r l) (λ c. let s = small-r c in omega arith) C refl in
           summed _ _
-          (count-set n _ _ b true _ (N .links .ends .target r (ltb-false _ _ e) l) (λ c. let s = small-r c in let k = one-most (eqb a c) in omega arith) D refl)
+          (count-set n _ _ b true _ (N .links .ends .target r (ltb-false _ _ e) l) (λ c. let s = small-r c in let k = indicator-most (eqb a c) in omega arith) D refl)
           (λ c. rw e (omega arith))
 
   start-counted : Counted n (upTo 0) (field n (λ c. noTerm))
@@ -177,6 +165,7 @@ module _ (net : Network) (N : NetworkSound net) where
   unfolding rowCount
   rowCount-small c = let h = upTo-small (rows (net .shape)) c (omega arith) in omega arith
 
+  -- in the terms, and in the network
   pub few-counted : fewIn (terms net) n ≡ few net
   unfolding fewIn few ofBits
   few-counted =
@@ -186,5 +175,4 @@ pub row-counts : RowCounts
 row-counts = record {
   exact = λ net e. terms-counted net (tests-sound net e) .count;
   sum = λ net e. counts-sum net (tests-sound net e);
-  counted = λ net e. few-counted net (tests-sound net e);
 }

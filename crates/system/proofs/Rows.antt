@@ -1,8 +1,8 @@
 -- The assembly of the terms, row by row, in the work buffer. Assumes nothing.
-use mathlib.Core.Path.{_≡_, refl, sym, ap, _∙_}
+use mathlib.Core.Path.{_≡_, sym, ap, _∙_}
 use mathlib.Core.List.{List, _++_}
 use mathlib.Core.Bool.{Bool, true, false, cond}
-use Prim.Native.Nat.{ℕ, suc, _+_, _*_, _<_, _≤_}
+use Prim.Native.Nat.{ℕ, _+_, _*_, _<_, _≤_}
 use native.Mathlib.Nat.{zero-add}
 use native.Mathlib.Numerals.{add-one}
 use native.Mathlib.Omega.{arith}
@@ -12,15 +12,15 @@ use lib.Seq.{getD-drop}
 use lib.Ieee.{Float, nan}
 use Rattle.field.specs.declared.Vec3.{Vec3}
 use Rattle.field.specs.Vec.{null}
-use Rattle.field.specs.Count.{field, upto}
+use Rattle.field.specs.Count.{field}
 use Rattle.field.specs.Buffer.{get, put, load, store, vector}
-use Rattle.field.proofs.Counting.{length-field, upto-zero, upto-suc, upto-keeps, upto-ext}
-use Rattle.field.proofs.Buffers.{length-load, length-store, store-load, store-store, change-store, load-store, drop-store, get-vector}
+use Rattle.field.proofs.Counting.{length-field, upto-zero, upto-suc, upto-keeps}
+use Rattle.field.proofs.Buffers.{length-load, store-load, store-store, change-store, load-store, drop-store, get-vector}
 use Rattle.network.specs.declared.Shape.{Shape}
 use Rattle.network.specs.Network.{rows, firstEnd, secondEnd, isBearing}
 use Rattle.network.specs.inner.Sound.{EndsSound}
 use Rattle.system.specs.declared.CameraTerm.{CameraTerm}
-use Rattle.system.specs.System.{Sums, Addition, noTerm, termAt, sees, departs, arrives, addBearing, addDirection, assembleRow, assembleRows, termsBy}
+use Rattle.system.specs.System.{Sums, noTerm, termAt, sees, departs, arrives, addBearing, addDirection, assembleRow, assembleRows, termsBy}
 use Rattle.system.specs.Work.{termPlace, weightsAt, meansAt, effectiveAt, matrixAt, term}
 use Rattle.system.specs.inner.Formed.{always, sumsIn, weightsIn, added}
 use Rattle.system.proofs.Terms.{term-lawful, cleared-terms}

@@ -16,9 +16,9 @@ use Rattle.field.proofs.Counting.{field-zero, field-suc}
 use Rattle.field.proofs.Sums.{count-none, count-more}
 use Rattle.field.proofs.Buffers.{Lawful, at-load, getD-part, get-part, get-vector, write-sets, filled-write, flat-append}
 use Rattle.system.specs.declared.CameraTerm.{CameraTerm}
-use Rattle.system.specs.System.{tiny, one, two, noTerm, degreeAt, reducedWeight, sees, joins, departs, arrives}
-use Rattle.system.specs.Counts.{fewIn}
+use Rattle.system.specs.System.{tiny, one, two, noTerm, termAt, degreeAt, reducedWeight, sees, joins, departs, arrives}
 use Rattle.system.specs.Work.{term, termPlace}
+use Rattle.system.specs.inner.Formed.{fewIn}
 
 -- ---- what a row adds
 
@@ -86,9 +86,12 @@ pub put-term-by : (l m : List Float) (p q : ℕ) (t : CameraTerm) → p ≡ q �
     set (set m (p + 4) (t .degree)) (p + 5) (t .count) ≡ put term l q t
 put-term-by l m p q t h e = rw (e, ← h) (sym (put-term l p t))
 
--- a degree in a field of terms
+-- a term in a field of terms, and its degree
+pub term-here : (l : List Float) (n c : ℕ) → c < n → get term l (termPlace c) ≡ termAt (load term l 0 n) c
+term-here l n c h = rw zero-add at (sym (at-load term l 0 n c noTerm h))
+
 pub degree-at : (l : List Float) (n c : ℕ) (t : CameraTerm) → t ≡ get term l (termPlace c) → c < n → t .degree ≡ degreeAt (load term l 0 n) c
-degree-at l n c t e h = ap (λ (t : CameraTerm). t .degree) (e ∙ rw zero-add at (sym (at-load term l 0 n c noTerm h)))
+degree-at l n c t e h = ap (λ (t : CameraTerm). t .degree) (e ∙ term-here l n c h)
 
 -- ---- how many counts are under 2
 
@@ -99,7 +102,7 @@ few-none ts = sym (count-none _)
 pub few-more : (l : List Float) (n c k x : ℕ) (t : CameraTerm) → c < n → t ≡ get term l (termPlace c) → x ≡ indicator (lt (t .count) two) → k ≡ fewIn (load term l 0 n) c →
     k + x ≡ fewIn (load term l 0 n) (c + 1)
 unfolding fewIn
-few-more l n c k x t h e f g = count-more _ c k x g (f ∙ ap (λ (u : CameraTerm). indicator (lt (u .count) two)) (e ∙ rw zero-add at (sym (at-load term l 0 n c noTerm h))))
+few-more l n c k x t h e f g = count-more _ c k x g (f ∙ ap (λ (u : CameraTerm). indicator (lt (u .count) two)) (e ∙ term-here l n c h))
 
 pub few-ended : (ts : List CameraTerm) (c n k : ℕ) → k ≡ fewIn ts c → c ≤ n → n ≤ c → k ≡ fewIn ts n
 few-ended ts c n k e g h = let q : c ≡ n = omega arith in rw q at e

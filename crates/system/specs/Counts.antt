@@ -5,7 +5,6 @@
 -- is added twice. Proved: `row-counts` of proofs/Counts.
 use Prim.Native.Nat.{ℕ, _+_, _*_, _<_}
 use mathlib.Core.Path.{_≡_}
-use mathlib.Core.List.{List}
 use mathlib.Core.Bool.{Bool, cond, not, _&&_}
 use lib.Dec.{eqb, ltb}
 use lib.IntN.{pos}
@@ -14,8 +13,7 @@ use Rattle.field.specs.Count.{sumBelow, indicator, countBelow}
 use Rattle.network.specs.declared.Verdict.the-variants.{Passed}
 use Rattle.network.specs.Network.{Network, rows, firstEnd, secondEnd, isBearing}
 use Rattle.network.specs.Refusals.{verdict, networkTests}
-use Rattle.system.specs.declared.CameraTerm.{CameraTerm}
-use Rattle.system.specs.System.{tiny, two, pointWeight, termAt, terms}
+use Rattle.system.specs.System.{tiny, pointWeight, termAt, terms}
 
 -- bearing r enters its camera's diagonal: the weight of its point is not below 1e-12
 unfoldable pub bearingEnters : Network → ℕ → Bool
@@ -27,17 +25,13 @@ entries net c r =
     cond (isBearing (net .shape) r) (indicator (bearingEnters net r && eqb (firstEnd (net .ends) r) c))
     (indicator (eqb (firstEnd (net .ends) r) c) + indicator (eqb (secondEnd (net .ends) r) c))
 
--- camera c's count
+-- camera c's count: its degree in rows, without weights
 unfoldable pub rowCount : Network → ℕ → ℕ
 rowCount net c = sumBelow (entries net c) (rows (net .shape))
 
 -- 'how many cameras have a count under 2'
 unfoldable pub few : Network → ℕ
 few net = countBelow (λ c. ltb (rowCount net c) 2) (net .shape .cameras)
-
--- the same, of the counts in n terms
-unfoldable pub fewIn : List CameraTerm → ℕ → ℕ
-fewIn ts n = countBelow (λ c. lt (termAt ts c .count) two) n
 
 -- for every network that passes 1 to 7
 pub record RowCounts : Type 0 where
@@ -47,5 +41,3 @@ pub record RowCounts : Type 0 where
   -- 'the sum of counts equals the number of such bearings plus twice E'
   pub sum : (net : Network) → verdict (networkTests net) ≡ Passed →
       sumBelow (rowCount net) (net .shape .cameras) ≡ countBelow (bearingEnters net) (net .shape .bearings) + 2 * net .shape .directions
-  -- so as many of the terms' counts are under 2
-  pub counted : (net : Network) → verdict (networkTests net) ≡ Passed → fewIn (terms net) (net .shape .cameras) ≡ few net

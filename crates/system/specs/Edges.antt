@@ -1,5 +1,4 @@
 -- Networks of document 01's 'Values at the edges', and numbers that they lead to.
-use Prim.Native.Nat.{ℕ}
 use mathlib.Core.List.{[], _∷_}
 use lib.Ieee.{Float, binary64, ofBits}
 use Rattle.field.specs.Vec.{null}

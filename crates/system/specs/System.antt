@@ -26,7 +26,7 @@ tiny = ofBits binary64 0x3d719799812dea11
 abbrev pub ridge : Float
 ridge = ofBits binary64 0x3eb0c6f7a0b5ed8d
 
--- 1, -1 and 2
+-- 1, 2 and -1
 abbrev pub one : Float
 one = ofBits binary64 0x3ff0000000000000
 

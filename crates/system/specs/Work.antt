@@ -1,11 +1,10 @@
 -- The work buffer (document 01: 'T = 23n + 4m + B + E + d² + 3d doubles', 24n with R-11's count): its segments lie one after another, each from
 -- where the one before it ends.
 use Prim.Native.Nat.{ℕ, _+_, _*_}
-use mathlib.Core.List.{List, [], _∷_}
+use mathlib.Core.List.{[], _∷_}
 use lib.Ieee.{nan}
 use lib.ListN.{getD}
 use Rattle.field.specs.Buffer.{Cell}
-use Rattle.network.specs.declared.Refusal.{Refusal}
 use Rattle.network.specs.declared.Verdict.{Verdict}
 use Rattle.network.specs.declared.Verdict.the-variants.{Refused, Passed}
 use Rattle.network.specs.declared.Shape.{Shape}

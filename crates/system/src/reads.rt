@@ -15,9 +15,8 @@ ghost use Rattle.field.specs.Count.{indicator};
 ghost use Rattle.network.specs.Network.{rows};
 ghost use Rattle.network.specs.inner.Sound.{ShapeSound};
 ghost use Rattle.system.specs.System.{two};
-ghost use Rattle.system.specs.Counts.{fewIn};
 ghost use Rattle.system.specs.Work.{term, termPlace, meansAt, matrixAt};
-ghost use Rattle.system.specs.inner.Formed.{weightsIn};
+ghost use Rattle.system.specs.inner.Formed.{fewIn, weightsIn};
 
 // The effective weight of row r.
 pub fn row_weight(s: Shape, work: &[f64], r: usize) -> f64

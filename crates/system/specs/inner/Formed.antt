@@ -3,14 +3,14 @@ use Prim.Native.Nat.{ℕ, _+_, _*_, _≤_, _<_}
 use mathlib.Core.Path.{_≡_}
 use mathlib.Core.List.{List}
 use lib.ListN.{length, drop, getD, set}
-use lib.Ieee.{Float, nan}
+use lib.Ieee.{Float, nan, lt}
 use Rattle.field.specs.declared.Vec3.{Vec3}
-use Rattle.field.specs.Count.{field}
+use Rattle.field.specs.Count.{field, countBelow}
 use Rattle.field.specs.Buffer.{part, get, put, load, store, number, vector}
 use Rattle.network.specs.declared.Shape.{Shape}
 use Rattle.network.specs.Network.{rows}
 use Rattle.system.specs.declared.CameraTerm.{CameraTerm}
-use Rattle.system.specs.System.{Weights, Sums, Addition, termsBy, anchorOf}
+use Rattle.system.specs.System.{Weights, Sums, Addition, two, termAt, termsBy, anchorOf}
 use Rattle.system.specs.Work.{positionsAt, weightsAt, meansAt, effectiveAt, matrixAt, term}
 
 -- ---- what is required
@@ -30,6 +30,10 @@ weightsIn s l = record { row = λ r. getD l (effectiveAt s + r) nan; point = λ 
 -- the cameras' positions
 abbrev pub positionsIn : Shape → List Float → List Vec3
 positionsIn s l = load vector l (positionsAt s) (s .cameras)
+
+-- how many of n terms have a count under 2
+unfoldable pub fewIn : List CameraTerm → ℕ → ℕ
+fewIn ts n = countBelow (λ c. lt (termAt ts c .count) two) n
 
 -- one pull for every row
 abbrev pub always : Vec3 → ℕ → Vec3

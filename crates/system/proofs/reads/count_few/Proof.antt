@@ -2,8 +2,8 @@ use mathlib.Core.Path.{_≡_}
 use Prim.Native.Nat.{_≤_, _-_}
 use native.Mathlib.Omega.{arith}
 use Rattle.field.specs.Buffer.{load}
-use Rattle.system.specs.Counts.{fewIn}
 use Rattle.system.specs.Work.{term}
+use Rattle.system.specs.inner.Formed.{fewIn}
 use Rattle.system.proofs.Terms.{few-none, few-more, few-ended}
 use borrow.Author.Needs.{needs}
 use Rattle.system.proofs.reads.count_few.Statement.{statement}
