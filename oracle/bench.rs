@@ -364,7 +364,7 @@ fn bytes_a_round(net: &Network) -> f64 {
 }
 
 /// The kinds of full-size networks that are timed.
-const FULL: [usize; 6] = [0, 1, 2, 3, 6, 4];
+const FULL: [usize; 7] = [0, 1, 2, 3, 6, 4, 7];
 
 /// Every network once.
 fn pass(runs: usize) -> (Vec<Solve>, Vec<Calls>) {

@@ -899,11 +899,12 @@ pub fn block_of(seed: u64, n: usize, m: usize, e: usize) -> Network {
 }
 
 /// Number of kinds of full-size cases.
-pub const FULL_KINDS: usize = 7;
+pub const FULL_KINDS: usize = 8;
 
-/// A case at the limits: n=4096, m=65,536, B=262,144; E=0 or 65,536; a block, a long strip, or directions only. In the blocks and
+/// A case at the limits: n=4096, m=65,536, B=262,144; E=0 or 65,536; a block, a long strip, directions only, or a star. In the blocks and
 /// at the end of the strip some points have a camera twice, and pairs of cameras have several directions (the strip's each 16), but
-/// in the last kind.
+/// in kind 6. In the star every row joins a camera to camera 0, the anchor, so that the system is diagonal and one round solves it; its
+/// points are seen by two cameras each.
 pub fn full(seed: u64, kind: usize) -> Case {
     let r = &mut Random::new(seed, 1 << 40 | kind as u64);
     let n = 4096;
@@ -915,6 +916,7 @@ pub fn full(seed: u64, kind: usize) -> Case {
         ("full directions", false, 0, 65536),
         ("full anything", false, 65536, 65536),
         ("full strip, E=65536, no pair twice", true, 65536, 65536),
+        ("full star, E=65536", false, 65536, 65536),
     ][kind];
     let cameras = if long { line(r, n) } else { cloud(r, n, 50.0) };
     let points: Vec<[f64; 3]> = (0..m)
@@ -927,9 +929,10 @@ pub fn full(seed: u64, kind: usize) -> Case {
     };
     let mut maker = Maker::new(r, style, cameras, points);
     for point in 0..m {
-        for sight in 0..4 {
+        for sight in 0..if kind == 7 { 2 } else { 4 } {
             let camera = match kind {
                 6 => (point / 16).min(n - 4) + sight,
+                7 => sight * (1 + point % (n - 1)),
                 _ if long => (point / 16 + sight).min(n - 1),
                 _ => maker.random.below(n),
             };
@@ -940,6 +943,8 @@ pub fn full(seed: u64, kind: usize) -> Case {
         if kind == 6 {
             let source = index % (n - 17);
             maker.direction(source, source + 1 + index / (n - 17));
+        } else if kind == 7 {
+            maker.direction(0, 1 + index % (n - 1));
         } else if long {
             let source = index % (n - 1);
             maker.direction(source, source + 1);

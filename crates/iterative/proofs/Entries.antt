@@ -1,5 +1,5 @@
 -- The passes over the cameras: what each turn stores is the field's own entry; sums over the cameras but the anchor. Assumes nothing.
-use mathlib.Core.Path.{ap, sym, _∙_, _≡_}
+use mathlib.Core.Path.{sym, _∙_, _≡_}
 use mathlib.Core.List.{List}
 use mathlib.Core.Bool.{Bool, cond, not, _&&_, true, false}
 use Prim.Native.Nat.{ℕ, _*_, _+_, _<_, _≤_}
@@ -20,12 +20,9 @@ use Rattle.field.specs.declared.Place.the-variants.{At, Nowhere}
 use Rattle.field.specs.declared.Vec3.{Vec3}
 use Rattle.system.specs.System.{noTerm, termAt, diagonalOf}
 use Rattle.system.specs.Work.{term, termPlace}
-use Rattle.system.specs.declared.CameraTerm.{CameraTerm}
 use Rattle.system.proofs.Terms.{term-here}
 use Rattle.iterative.specs.Method.{badDiagonal, difference, differenceEntry, preconditionedEntry, searchEntry, searchField, searchStep, stepped, steppedEntry}
-use Rattle.iterative.specs.Method.{zeros}
 use Rattle.iterative.specs.Problem.{dotStep, fieldDot, times}
-use Rattle.iterative.specs.Reduced.{rightEntry, rightOf}
 use Rattle.iterative.specs.declared.Active.{Active}
 use Rattle.iterative.specs.inner.Solver.{TurnPreconditioned, TurnStepped, diagonalIn}
 
@@ -68,13 +65,13 @@ pub dot-same : (f g : List Vec3) (a i : ℕ) (s : Vec3) → eqb i a ≡ true →
 unfolding dotStep
 dot-same f g a i s e = rw e
 
-pub dot-added : (l : List Float) (n a p q i : ℕ) (s x y v t : Vec3) → eqb i a ≡ false → i < n →
-    x ≡ get vector l (p + 3 * i) → y ≡ get vector l (q + 3 * i) → v ≡ times x y → t ≡ plus s v → t ≡ dotStep a (load vector l p n) (load vector l q n) i s
+pub dot-added : (l : List Float) (n a p q i : ℕ) (s x y t : Vec3) → eqb i a ≡ false → i < n →
+    x ≡ get vector l (p + 3 * i) → y ≡ get vector l (q + 3 * i) → t ≡ plus s (times x y) → t ≡ dotStep a (load vector l p n) (load vector l q n) i s
 unfolding dotStep
-dot-added l n a p q i s x y v t e h ex ey ev k =
+dot-added l n a p q i s x y t e h ex ey k =
     let u : at (load vector l p n) i ≡ x = at-load vector l p n i origin h ∙ sym ex in
     let w : at (load vector l q n) i ≡ y = at-load vector l q n i origin h ∙ sym ey in
-    rw (e, u, w, ← ev) k
+    rw (e, u, w) k
 
 module _ (f g : List Vec3) (a : ℕ) where
   pub dot-none : (s : Vec3) → s ≡ origin → s ≡ upto (dotStep a f g) 0 origin
@@ -124,15 +121,6 @@ module _ (g : ℕ → Vec3) (f : List Vec3) (n a into : ℕ) (l : List Float) wh
 -- ---- one entry more
 
 module _ (n a : ℕ) (l m w : List Float) (i : ℕ) (h : i < n) where
-  pub right-more : (into : ℕ) → termPlace n ≤ into → m ≡ store vector l into (rightOf i a (load term l 0 n)) →
-      w ≡ put vector m (into + 3 * i) (cond (eqb i a) origin (get term m (termPlace i) .right)) →
-      w ≡ store vector l into (rightOf (i + 1) a (load term l 0 n))
-  unfolding rightEntry
-  right-more into k e f = fill-more _ l into i m w _ e (ap (λ (t : CameraTerm). cond (eqb i a) origin (t .right)) (term-seen l m into _ n i e h k)) f
-
-  pub zeros-more : (into : ℕ) (v : Vec3) → v ≡ origin → m ≡ store vector l into (zeros i) → w ≡ put vector m (into + 3 * i) v → w ≡ store vector l into (zeros (i + 1))
-  zeros-more into v ev e f = fill-more _ l into i m w v e ev f
-
   module _ (from into : ℕ) (k : termPlace n ≤ from) (apart : from + 3 * n ≤ into) where
     abbrev z : ℕ → Vec3
     z = preconditionedEntry a (diagonalOf (load term l 0 n)) (load vector l from n)

@@ -6,5 +6,6 @@ pub mod Kept
 pub mod Entries
 pub mod Rounding
 pub mod Running
+pub mod Opening
 pub mod Solving
 pub mod Examples

@@ -1,6 +1,6 @@
 -- The start, the end, and the whole solve, from what the calls ensure. Assumes nothing.
 use mathlib.Core.Path.{ap, refl, subst, sym, _∙_, _≡_}
-use mathlib.Core.Logic.{inl, inr}
+use mathlib.Core.Logic.{inr}
 use mathlib.Core.Bool.{Bool}
 use mathlib.Core.List.{List}
 use Prim.Native.Nat.{ℕ, _≤_}
@@ -17,16 +17,18 @@ use Rattle.network.specs.Network.{Links, Network, links, linksOf}
 use Rattle.network.specs.inner.Sound.{LinksSound}
 use Rattle.network.specs.declared.Shape.{Shape}
 use Rattle.system.specs.System.{anchor, terms, weightsOf, diagonalOf}
-use Rattle.system.specs.Work.{appliedAt, matrixAt, positionsAt, residualAt, rightAt, searchAt, term}
+use Rattle.system.specs.Work.{appliedAt, matrixAt, positionsAt, rightAt, term}
 use Rattle.system.specs.inner.Formed.{Segments, positionsIn, weightsIn}
 use Rattle.operator.proofs.Buffered.{reduced-held, weights-kept}
 use Rattle.operator.proofs.OperatorLaws.{by-length}
 use Rattle.operator.specs.Operator.{reducedBy}
 use Rattle.operator.specs.inner.Applied.{reducedIn}
-use Rattle.iterative.proofs.Kept.{kept-store, kept-then, other-field, outside-same, outside-store, outside-then, own-field, placed-same, problem-in-kept}
+use Rattle.iterative.proofs.Kept.{kept-store, kept-then, other-field, outside-same, outside-then, own-field, placed-same, problem-in-kept}
+use Rattle.iterative.proofs.Opening.{opened-fields, opened-outside}
 use Rattle.iterative.proofs.Running.{rounds-over}
 use Rattle.iterative.specs.Method.{Run, State, accepted, acceptedUnless, allowed, allowedOf, badDiagonal, badResidual, boundOf, closed, component, difference, ended, failed}
-use Rattle.iterative.specs.Method.{opened, preconditioned, refused, residualOf, rounds, solution, squareSum, start, startsActive, zeros}
+use Rattle.iterative.specs.Method.{opened, refused, residualOf, rounds, solution, squareSum, start, startsActive}
+use Rattle.iterative.specs.Opening.{Opened}
 use Rattle.iterative.specs.Problem.{Problem, fieldDot, mostRounds}
 use Rattle.iterative.specs.Reduced.{problem, problemBy, rightOf}
 use Rattle.iterative.specs.declared.Active.{Active}
@@ -35,57 +37,21 @@ use Rattle.iterative.specs.declared.Outcome.the-variants.{Failed as NotP
 use Rattle.iterative.specs.declared.Round.{Round}
 use Rattle.iterative.specs.declared.Step.{Step}
 use Rattle.iterative.specs.declared.Step.the-variants.{Ended, Failed, Running}
-use Rattle.iterative.specs.inner.Solver.{Concluded, FieldsFit, Iterated, IterativeSolved, Opened, Preconditioned, Settled, Started, Tested, answerOf, begun}
-use Rattle.iterative.specs.inner.Solver.{firstRound, problemIn, rightSums, roundsFrom, runIn, stateIn}
+use Rattle.iterative.specs.inner.Solver.{Concluded, FieldsFit, Iterated, IterativeSolved, Settled, Started, Tested, answerOf, begun}
+use Rattle.iterative.specs.inner.Solver.{problemIn, rightSums, roundsFrom, runIn, stateIn}
 
 -- ---- the start
 
-pub opened-done : (s : Shape) (a : ℕ) (l l1 l2 l3 l4 : List Float) (p1 p2 p3 p4 p5 : ℕ) (v : Vec3) → FieldsFit s (length l) →
-    p1 ≡ rightAt s → p2 ≡ positionsAt s → p3 ≡ residualAt s → p4 ≡ residualAt s → p5 ≡ searchAt s →
-    l1 ≡ store vector l p1 (rightOf (s .cameras) a (load term l 0 (s .cameras))) →
-    l2 ≡ store vector l1 p2 (zeros (s .cameras)) →
-    l3 ≡ store vector l2 p3 (rightOf (s .cameras) a (load term l2 0 (s .cameras))) →
-    Preconditioned s a p4 p5 l3 l4 v → Opened s a l l4
-opened-done s a l l1 l2 l3 l4 p1 p2 p3 p4 p5 v R q1 q2 q3 q4 q5 f1 f2 f3 D =
-    let n = s .cameras in
-    let e1 : l1 ≡ store vector l (rightAt s) (rightOf n a (load term l 0 n)) = rw q1 at f1 in
-    let e2 : l2 ≡ store vector l1 (positionsAt s) (zeros n) = rw q2 at f2 in
-    let e3 : l3 ≡ store vector l2 (residualAt s) (rightOf n a (load term l2 0 n)) = rw q3 at f3 in
-    let e4 : l4 ≡ store vector l3 (searchAt s) (preconditioned n a (diagonalOf (load term l3 0 n)) (load vector l3 (residualAt s) n)) = rw (q4, q5) at (D .field) in
-    let s1 : length (rightOf n a (load term l 0 n)) ≡ n = length-field n _ in
-    let s2 : length (zeros n) ≡ n = length-field n _ in
-    let s3 : length (rightOf n a (load term l2 0 n)) ≡ n = length-field n _ in
-    let s4 : length (preconditioned n a (diagonalOf (load term l3 0 n)) (load vector l3 (residualAt s) n)) ≡ n = length-field n _ in
-    let o1 = outside-store s l (rightAt s) _ l1 e1 s1 (omega arith) (omega arith) in
-    let o2 = outside-then o1 (outside-store s l1 (positionsAt s) _ l2 e2 s2 (omega arith) (omega arith)) in
-    let o3 = outside-then o2 (outside-store s l2 (residualAt s) _ l3 e3 s3 (omega arith) (omega arith)) in
-    let o4 = outside-then o3 (outside-store s l3 (searchAt s) _ l4 e4 s4 (omega arith) (omega arith)) in
-    let right : load vector l1 (rightAt s) n ≡ rightOf n a (load term l 0 n) = own-field n l (rightAt s) _ l1 e1 s1 (omega (arith, R .room)) in
-    let positions : load vector l2 (positionsAt s) n ≡ zeros n = own-field n l1 (positionsAt s) _ l2 e2 s2 (omega (arith, R .room, o1 .size)) in
-    let residual : load vector l3 (residualAt s) n ≡ rightOf n a (load term l2 0 n) = own-field n l2 (residualAt s) _ l3 e3 s3 (omega (arith, R .room, o2 .size)) in
-    let search : load vector l4 (searchAt s) n ≡ preconditioned n a (diagonalOf (load term l3 0 n)) (load vector l3 (residualAt s) n) =
-    own-field n l3 (searchAt s) _ l4 e4 s4 (omega (arith, R .room, o3 .size)) in
+pub started : (s : Shape) (a : ℕ) (l l' : List Float) (v w bound : Vec3) (active : Active) → FieldsFit s (length l) → Opened s a (s .cameras) l l' v w →
+    bound ≡ boundOf v → active ≡ startsActive bound v → Started s a l l' v (record { old = w; active = active; count = 0 })
+started s a l l' v w bound active R O e f =
+    let F = opened-fields s a l l' v w O (R .room) in
     record {
-      outside = o4;
-      right =
-          other-field n l3 _ _ l4 (rightAt s) e4 s4 (inr (omega arith))
-          ∙ other-field n l2 _ _ l3 (rightAt s) e3 s3 (inr (omega arith))
-          ∙ other-field n l1 _ _ l2 (rightAt s) e2 s2 (inl (omega arith))
-          ∙ right;
-      positions =
-          other-field n l3 _ _ l4 (positionsAt s) e4 s4 (inr (omega arith)) ∙ other-field n l2 _ _ l3 (positionsAt s) e3 s3 (inr (omega arith)) ∙ positions;
-      residual = other-field n l3 _ _ l4 (residualAt s) e4 s4 (inr (omega arith)) ∙ residual ∙ rw (o2 .terms);
-      search = search ∙ rw (residual, o3 .terms, o2 .terms);
+      outside = opened-outside s a l l' v w O;
+      fields = F;
+      sums = O .sums ∙ rw (F .1 .0);
+      round = rw (f, e, F .1 .1 .0, F .1 .1 .1 .1 .0, O .old);
     }
-
-pub first-round-is : (s : Shape) (a : ℕ) (l : List Float) (p q : ℕ) (sums bound old : Vec3) (active : Active) → p ≡ residualAt s → q ≡ searchAt s →
-    old ≡ fieldDot (s .cameras) a (load vector l p (s .cameras)) (load vector l q (s .cameras)) → bound ≡ boundOf sums → active ≡ startsActive bound sums →
-    record { old = old; active = active; count = 0 } ≡ firstRound s a l sums
-first-round-is s a l p q sums bound old active ep eq eo eb ea = rw (ea, eb, eo, ep, eq)
-
-pub started : (s : Shape) (a : ℕ) (l l1 : List Float) (p : ℕ) (sums : Vec3) (r : Round) → Opened s a l l1 → p ≡ rightAt s →
-    sums ≡ fieldDot (s .cameras) a (load vector l1 p (s .cameras)) (load vector l1 p (s .cameras)) → r ≡ firstRound s a l1 sums → Started s a l l1 sums r
-started s a l l1 p sums r O ep es er = record { opened = O; sums = rw ep at es; round = er }
 
 -- ---- the end
 
@@ -176,21 +142,22 @@ module _ (s : Shape) (ends offsets listed : List ℕ) (a : ℕ) (l : List Float)
         outside = outside-same s l;
       }
 
-  -- the system in the buffer, once the start is made
-  started-problem : (l1 : List Float) → Opened s a l l1 → problemIn L a l1 ≡ own
-  unfolding problemBy
-  started-problem l1 O =
-      λ i. record {
-        cameras = n;
-        anchor = a;
-        diagonal = diagonalOf (O .outside .terms i);
-        right = O .right i;
-        operator = reducedBy L (weights-kept s l l1 (O .outside .rest) i) a;
-      }
+  -- once the start is made: the system in the buffer, and the state
+  module _ (l1 : List Float) (sums : Vec3) (first : Round) (S : Started s a l l1 sums first) where
+    started-problem : problemIn L a l1 ≡ own
+    unfolding problemBy
+    started-problem =
+        λ i. record {
+          cameras = n;
+          anchor = a;
+          diagonal = diagonalOf (S .outside .terms i);
+          right = S .fields .1 .0 i;
+          operator = reducedBy L (weights-kept s l l1 (S .outside .rest) i) a;
+        }
 
-  started-state : (l1 : List Float) (sums : Vec3) (first : Round) → Started s a l l1 sums first → stateIn s l1 first ≡ start own
-  unfolding problemBy start squareSum
-  started-state l1 sums first S = rw (S .round, S .sums, S .opened .right, S .opened .positions, S .opened .residual, S .opened .search)
+    started-state : stateIn s l1 first ≡ start own
+    unfolding problemBy start squareSum
+    started-state = let F = S .fields in rw (S .round, S .sums, F .0, F .1 .0, F .1 .1 .0, F .1 .1 .1 .1 .0)
 
   pub solved-run : (l1 l2 l3 : List Float) (sums : Vec3) (first : Round) (x : Step) (o : Outcome) →
       lowest (badDiagonal a (diagonalOf (load term l 0 n))) n ≡ Nowhere → Started s a l l1 sums first →
@@ -198,7 +165,7 @@ module _ (s : Shape) (ends offsets listed : List ℕ) (a : ℕ) (l : List Float)
       Concluded s (problemIn (links s ends offsets listed) a l2) (runIn s l2 x) l2 l3 o →
       IterativeSolved s own l l3 o
   solved-run l1 l2 l3 sums first x o e S I0 C0 =
-      let p1 : problemIn L a l1 ≡ own = started-problem l1 (S .opened) in
+      let p1 : problemIn L a l1 ≡ own = started-problem l1 sums first S in
       let I : Iterated s own (begun (stateIn s l1 first)) l1 l2 x = subst (λ (Q : Problem). Iterated s Q (begun (stateIn s l1 first)) l1 l2 x) p1 I0 in
       let p2 : problemIn L a l2 ≡ own = problem-in-kept L a l1 l2 (I .kept) ∙ p1 in
       let C : Concluded s own (runIn s l2 x) l2 l3 o = subst (λ (Q : Problem). Concluded s Q (runIn s l2 x) l2 l3 o) p2 C0 in
@@ -207,7 +174,7 @@ module _ (s : Shape) (ends offsets listed : List ℕ) (a : ℕ) (l : List Float)
       record {
         answer = C .answer ∙ sym (ap answerOf q);
         positions = λ t u. C .kept .positions ∙ closed-positions own s l2 x t (sym q ∙ u);
-        outside = outside-then (S .opened .outside) (outside-then (I .kept .outside) (C .kept .kept .outside));
+        outside = outside-then (S .outside) (outside-then (I .kept .outside) (C .kept .kept .outside));
       }
 
 pub none-bad : (p : Place) (f : ℕ → Bool) (n : ℕ) → p ≡ lowest f n → p ≡ Nowhere → lowest f n ≡ Nowhere
@@ -215,7 +182,7 @@ none-bad p f n e h = sym e ∙ h
 
 -- what the rounds and the end need of the calls before
 pub started-room : (s : Shape) (a : ℕ) (l l1 : List Float) (v : Vec3) (r : Round) → Started s a l l1 v r → matrixAt s ≤ length l → matrixAt s ≤ length l1
-started-room s a l l1 v r S h = rw (S .opened .outside .size) h
+started-room s a l l1 v r S h = rw (S .outside .size) h
 
 pub started-count : (s : Shape) (a : ℕ) (l l1 : List Float) (v : Vec3) (r : Round) → Started s a l l1 v r → r .count ≡ 0
 started-count s a l l1 v r S = ap (λ (x : Round). x .count) (S .round)

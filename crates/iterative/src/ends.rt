@@ -6,28 +6,32 @@ use crate::components::allowed;
 use crate::components::bound;
 use crate::components::find_bad_residual;
 use crate::components::starts_active;
+use crate::fields::add_products;
 use crate::fields::field_dot;
-use crate::fields::precondition;
-use crate::fields::set_right;
-use crate::fields::set_zero;
+use crate::fields::ridged_diagonal;
 use crate::fields::subtract;
 use field::Place;
 use field::Vec3;
+use field::put3;
+use field::zero;
 use network::Shape;
 use operator::held::apply;
+use system::get_term;
 use system::work::applied_at;
 use system::work::positions_at;
+use system::work::preconditioned_at;
 use system::work::residual_at;
 use system::work::right_at;
 use system::work::search_at;
 ghost use mathlib.Core.Path.{_≡_};
 ghost use lib.ListN.{length};
-ghost use Prim.Native.Nat.{_≤_};
+ghost use Prim.Native.Nat.{_<_, _≤_};
 ghost use Rattle.network.specs.Network.{links};
 ghost use Rattle.network.specs.inner.Sound.{LinksSound};
 ghost use Rattle.system.specs.Work.{matrixAt};
 ghost use Rattle.iterative.specs.Method.{ended};
-ghost use Rattle.iterative.specs.inner.Solver.{FieldsFit, Opened, Started, rightSums, firstRound, Settled, Tested, Concluded, stateIn, runIn};
+ghost use Rattle.iterative.specs.Opening.{Opened, startSegments};
+ghost use Rattle.iterative.specs.inner.Solver.{FieldsFit, TurnOpened, Started, rightSums, Settled, Tested, Concluded, putEach, stateIn, runIn};
 ghost use Rattle.iterative.specs.inner.Solver.{problemIn};
 
 // What the method starts with: the square sums of the right side, and the first round's record.
@@ -36,38 +40,73 @@ pub(crate) struct Opening {
     pub(crate) round: Round,
 }
 
-// The right side; positions zero; the residual, which is the right side; the search vector.
-fn open(s: Shape, work: &mut [f64], anchor: usize)
-    requires { ⌜ FieldsFit s (length (now work)) ⌝ }
-    ensures { λ r. ⌜ Opened s anchor (now (work .entry)) (now (work .exit)) ⌝ }
-{
-    set_right(s, work, anchor, right_at(s));
-    set_zero(s, work, positions_at(s));
-    set_right(s, work, anchor, residual_at(s));
-    precondition(s, work, anchor, residual_at(s), search_at(s));
+// The sums of the first pass: the squares of the right side, and the products of residual and preconditioned residual.
+struct StartSums {
+    right: Vec3,
+    old: Vec3,
 }
 
-fn first_round(s: Shape, work: &[f64], anchor: usize, sums: Vec3) -> Round
-    requires { ⌜ FieldsFit s (length (now work)) ⌝ }
-    ensures { λ r. ⌜ r ≡ firstRound s anchor (now (work .entry)) sums ⌝ }
+// Camera i's vectors of the start: its position zero, its right side and residual b, its preconditioned residual and search vector z.
+fn put_start(s: Shape, work: &mut [f64], i: usize, b: Vec3, z: Vec3)
+    requires { ⌜ FieldsFit s (length (now work)) × (i < s .cameras) ⌝ }
+    ensures { λ r. ⌜ now (work .exit) ≡ putEach (startSegments s (λ j. b) (λ j. z)) i (now (work .entry)) ⌝ }
 {
-    Round {
-        old: field_dot(work, s.cameras, anchor, residual_at(s), search_at(s)),
-        active: starts_active(bound(sums), sums),
-        count: 0,
+    put3(work, positions_at(s) + 3 * i, zero());
+    put3(work, right_at(s) + 3 * i, b);
+    put3(work, residual_at(s) + 3 * i, b);
+    put3(work, preconditioned_at(s) + 3 * i, z);
+    put3(work, search_at(s) + 3 * i, z);
+}
+
+// The same of camera i's term, zero at the anchor; and the camera's products added to the sums.
+fn open_camera(s: Shape, work: &mut [f64], anchor: usize, i: usize, sums: StartSums) -> StartSums
+    requires { ⌜ FieldsFit s (length (now work)) × (i < s .cameras) ⌝ }
+    ensures { λ r. ⌜ TurnOpened s anchor i (sums .right) (sums .old) (now (work .entry)) (now (work .exit)) (r .right) (r .old) ⌝ }
+{
+    if i == anchor {
+        put_start(s, work, i, zero(), zero());
+        return sums;
     }
+    let b = get_term(work, i).right;
+    let z = b.div(ridged_diagonal(work, i));
+    put_start(s, work, i, b, z);
+    StartSums {
+        right: add_products(sums.right, b, b),
+        old: add_products(sums.old, b, z),
+    }
+}
+
+// Every field of the start, and its sums, in one pass over the cameras.
+fn open(s: Shape, work: &mut [f64], anchor: usize) -> StartSums
+    requires { ⌜ FieldsFit s (length (now work)) ⌝ }
+    ensures { λ r. ⌜ Opened s anchor (s .cameras) (now (work .entry)) (now (work .exit)) (r .right) (r .old) ⌝ }
+{
+    let mut sums = StartSums {
+        right: zero(),
+        old: zero(),
+    };
+    let mut i = 0usize;
+    while i < s.cameras {
+        sums = open_camera(s, work, anchor, i, sums);
+        i += 1;
+    }
+    sums
 }
 
 pub(crate) fn start(s: Shape, work: &mut [f64], anchor: usize) -> Opening
     requires { ⌜ FieldsFit s (length (now work)) ⌝ }
     ensures { λ r. ⌜ Started s anchor (now (work .entry)) (now (work .exit)) (r .sums) (r .round) ⌝ }
 {
-    open(s, work, anchor);
-    let at = right_at(s);
-    let sums = field_dot(work, s.cameras, anchor, at, at);
+    let sums = open(s, work, anchor);
+    let right = sums.right;
+    let old = sums.old;
     Opening {
-        sums: sums,
-        round: first_round(s, work, anchor, sums),
+        sums: right,
+        round: Round {
+            old: old,
+            active: starts_active(bound(right), right),
+            count: 0,
+        },
     }
 }
 

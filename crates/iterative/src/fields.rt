@@ -17,28 +17,27 @@ ghost use Prim.Native.Nat.{_+_, _*_, _<_, _≤_};
 ghost use lib.Dec.{eqb};
 ghost use lib.ListN.{length};
 ghost use lib.Ieee.Scale.{finite};
-ghost use Rattle.field.specs.Vec.{origin, minus, over};
+ghost use Rattle.field.specs.Vec.{origin, minus, over, plus};
 ghost use Rattle.field.specs.Count.{lowest};
 ghost use Rattle.field.specs.Buffer.{get, put, load, store, vector};
 ghost use Rattle.system.specs.System.{diagonalOf};
 ghost use Rattle.system.specs.Work.{term, termPlace};
 ghost use Rattle.operator.specs.inner.Applied.{Ordered};
-ghost use Rattle.iterative.specs.Problem.{times as products, dotStep, fieldDot};
-ghost use Rattle.iterative.specs.Method.{zeros, stepped as steppedOf, searchStep, searchField, difference, badDiagonal};
-ghost use Rattle.iterative.specs.Reduced.{rightOf};
-ghost use Rattle.iterative.specs.inner.Solver.{FieldAt, FieldStepped, FieldsFit, Preconditioned, TurnPreconditioned, TurnStepped, diagonalIn};
+ghost use Rattle.iterative.specs.Problem.{times, dotStep, fieldDot};
+ghost use Rattle.iterative.specs.Method.{stepped as steppedOf, searchStep, searchField, difference, badDiagonal};
+ghost use Rattle.iterative.specs.inner.Solver.{FieldStepped, FieldsFit, Preconditioned, TurnPreconditioned, TurnStepped, diagonalIn};
 ghost use Rattle.iterative.specs.inner.Solver.{signed};
 
 // ---- sums
 
-// The products on each axis.
-fn times(a: Vec3, b: Vec3) -> Vec3
-    ensures { λ r. ⌜ r ≡ products a b ⌝ }
+// The products on each axis added to a sum.
+pub(crate) fn add_products(sum: Vec3, a: Vec3, b: Vec3) -> Vec3
+    ensures { λ r. ⌜ r ≡ plus sum (times a b) ⌝ }
 {
     Vec3 {
-        x: a.x * b.x,
-        y: a.y * b.y,
-        z: a.z * b.z,
+        x: sum.x + a.x * b.x,
+        y: sum.y + a.y * b.y,
+        z: sum.z + a.z * b.z,
     }
 }
 
@@ -50,8 +49,7 @@ fn dot_step(work: &[f64], n: usize, anchor: usize, p: usize, q: usize, i: usize,
     if i == anchor {
         return sum;
     }
-    let v = times(get3(work, p + 3 * i), get3(work, q + 3 * i));
-    sum.add(v)
+    add_products(sum, get3(work, p + 3 * i), get3(work, q + 3 * i))
 }
 
 // For each component the sum of the products of the fields at p and q, over all cameras but the anchor: the Rust's `component_dot`.
@@ -105,41 +103,6 @@ pub(crate) fn find_bad_diagonal(s: Shape, work: &[f64], anchor: usize) -> Place
 }
 
 // ---- fields that are filled: each by one camera's vector after another
-
-fn put_right(work: &mut [f64], anchor: usize, into: usize, i: usize)
-    requires { ⌜ (i < 4096) × (termPlace (i + 1) ≤ length (now work)) × (into + 3 * i + 3 ≤ length (now work)) ⌝ }
-    ensures { λ r. ⌜ now (work .exit) ≡ put vector (now (work .entry)) (into + 3 * i)
-        (cond (eqb i anchor) origin (get term (now (work .entry)) (termPlace i) .right)) ⌝ }
-{
-    let t = get_term(work, i);
-    put3(work, into + 3 * i, anchored(i, anchor, zero(), t.right));
-}
-
-// The right side, and zero at the anchor.
-pub(crate) fn set_right(s: Shape, work: &mut [f64], anchor: usize, into: usize)
-    requires { ⌜ FieldAt s into (length (now work)) ⌝ }
-    ensures { λ r. ⌜ now (work .exit) ≡ store vector (now (work .entry)) into
-        (rightOf (s .cameras) anchor (load term (now (work .entry)) 0 (s .cameras))) ⌝ }
-{
-    let n = s.cameras;
-    let mut i = 0usize;
-    while i < n {
-        put_right(work, anchor, into, i);
-        i += 1;
-    }
-}
-
-pub(crate) fn set_zero(s: Shape, work: &mut [f64], into: usize)
-    requires { ⌜ FieldAt s into (length (now work)) ⌝ }
-    ensures { λ r. ⌜ now (work .exit) ≡ store vector (now (work .entry)) into (zeros (s .cameras)) ⌝ }
-{
-    let n = s.cameras;
-    let mut i = 0usize;
-    while i < n {
-        put3(work, into + 3 * i, zero());
-        i += 1;
-    }
-}
 
 fn put_preconditioned(work: &mut [f64], anchor: usize, from: usize, into: usize, i: usize)
     requires { ⌜ (i < 4096) × (termPlace (i + 1) ≤ length (now work)) × (from + 3 * i + 3 ≤ length (now work)) ×

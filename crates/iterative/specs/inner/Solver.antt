@@ -1,28 +1,28 @@
 -- What the functions of the solve require of the lent buffer, what they make of it, and what they keep.
 use mathlib.Core.Path.{_≡_}
-use mathlib.Core.List.{List}
+use mathlib.Core.List.{List, [], _∷_}
 use mathlib.Core.Bool.{Bool, cond, false, true}
 use Prim.Native.Nat.{ℕ, _+_, _*_, _≤_}
 use lib.Dec.{eqb}
 use lib.ListN.{drop, length}
 use lib.Ieee.{Float, add, binary64, sub}
 use Rattle.field.specs.Buffer.{get, load, put as putAt, store, vector}
-use Rattle.field.specs.Count.{upto}
-use Rattle.field.specs.Vec.{origin, over}
+use Rattle.field.specs.Count.{field, upto}
+use Rattle.field.specs.Vec.{origin, over, plus}
 use Rattle.field.specs.declared.Place.{Place}
 use Rattle.field.specs.declared.Vec3.{Vec3}
 use Rattle.network.specs.Network.{Links}
 use Rattle.network.specs.inner.Sound.{ShapeSound}
 use Rattle.network.specs.declared.Shape.{Shape}
-use Rattle.system.specs.Work.{appliedAt, positionsAt, residualAt, rightAt, searchAt, term, termPlace, weightsAt}
+use Rattle.system.specs.Work.{appliedAt, residualAt, rightAt, searchAt, term, termPlace, weightsAt}
 use Rattle.system.specs.System.{ridge, diagonalOf}
 use Rattle.system.specs.inner.Formed.{positionsIn, weightsIn}
 use Rattle.operator.specs.Operator.{reducedBy}
 use Rattle.iterative.specs.Method.{Ending, Run, State, accepted, allowed, any, badResidual, boundOf, closed, component, continued, ended}
 use Rattle.iterative.specs.Method.{failed, flag, moved, next, preconditioned, redirect, refused, residualOf, round, running, solution}
-use Rattle.iterative.specs.Method.{startsActive, step, stepped, steppedField, zeros}
-use Rattle.iterative.specs.Problem.{Problem, dotStep, fieldDot, mostRounds}
-use Rattle.iterative.specs.Reduced.{rightOf}
+use Rattle.iterative.specs.Method.{startsActive, step, stepped, steppedField}
+use Rattle.iterative.specs.Opening.{Each, Segment, segmentsOf, startSegments}
+use Rattle.iterative.specs.Problem.{Problem, dotStep, fieldDot, mostRounds, times}
 use Rattle.iterative.specs.declared.Active.{Active}
 use Rattle.iterative.specs.declared.Outcome.{Outcome}
 use Rattle.iterative.specs.declared.Outcome.the-variants.{Failed as NotPlaced, Placed}
@@ -47,12 +47,6 @@ lowestFlag a = component (λ k. flag k a)
 pub record FieldsFit (s : Shape) (size : ℕ) : Type 0 where
   pub shape : ShapeSound s
   pub room : weightsAt s ≤ size
-
--- a field of n vectors behind the camera terms
-pub record FieldAt (s : Shape) (into size : ℕ) : Type 0 where
-  pub shape : ShapeSound s
-  pub behind : positionsAt s ≤ into
-  pub room : into + 3 * s .cameras ≤ size
 
 -- ---- what stands in a buffer
 
@@ -118,6 +112,24 @@ pub record TurnStepped (n a : ℕ) (op : Float → Float → Float) (active : Ac
       (stepped op active alpha (get vector l (into + 3 * i)) (get vector l (along + 3 * i))))
   pub dot : r ≡ dotStep a (load vector l' into n) (load vector l' into n) i t
 
+-- camera i's right side and preconditioned residual at the start, of its term: zero at the anchor
+abbrev pub rightIn : ℕ → List Float → ℕ → Vec3
+rightIn a l i = cond (eqb i a) origin (get term l (termPlace i) .right)
+
+abbrev pub preconditionedIn : ℕ → List Float → ℕ → Vec3
+preconditionedIn a l i = cond (eqb i a) origin (over (get term l (termPlace i) .right) (diagonalIn l i))
+
+-- camera i's vector put in each segment
+abbrev pub putEach : List Segment → ℕ → List Float → List Float
+putEach [] i l = l
+putEach (g ∷ gs) i l = putEach gs i (putAt vector l (g .place + 3 * i) (g .entry i))
+
+-- these put in the start's segments, and their products added to the sums v and w
+pub record TurnOpened (s : Shape) (a i : ℕ) (v w : Vec3) (l l' : List Float) (v' w' : Vec3) : Type 0 where
+  pub put : l' ≡ putEach (startSegments s (rightIn a l) (preconditionedIn a l)) i l
+  pub sums : v' ≡ cond (eqb i a) v (plus v (times (rightIn a l i) (rightIn a l i)))
+  pub old : w' ≡ cond (eqb i a) w (plus w (times (rightIn a l i) (preconditionedIn a l i)))
+
 -- ---- passes that fill a field and sum a dot: l is the buffer before, l' after, r the dot
 
 -- the field at `from` preconditioned, at `into`; its dot with what it was made of
@@ -180,14 +192,6 @@ pub record Iterated (s : Shape) (P : Problem) (x : Run) (l l' : List Float) (t :
 abbrev pub begun : State → Run
 begun s = cond (any (s .round .active)) (running s) (ended s)
 
-pub record Opened (s : Shape) (a : ℕ) (l l' : List Float) : Type 0 where
-  pub outside : Outside s l l'
-  pub right : load vector l' (rightAt s) (s .cameras) ≡ rightOf (s .cameras) a (load term l 0 (s .cameras))
-  pub positions : positionsIn s l' ≡ zeros (s .cameras)
-  pub residual : load vector l' (residualAt s) (s .cameras) ≡ rightOf (s .cameras) a (load term l 0 (s .cameras))
-  pub search : load vector l' (searchAt s) (s .cameras) ≡ preconditioned (s .cameras) a (diagonalOf (load term l 0 (s .cameras)))
-      (rightOf (s .cameras) a (load term l 0 (s .cameras)))
-
 -- the first round's record, of the fields in the buffer and the right side's square sums
 abbrev pub firstRound : Shape → ℕ → List Float → Vec3 → Round
 firstRound s a l sums = record {
@@ -196,9 +200,10 @@ firstRound s a l sums = record {
   count = 0;
 }
 
--- the start is made: the square sums of the right side, and the first round's record
+-- the start is made: its segments, the square sums of the right side, and the first round's record
 pub record Started (s : Shape) (a : ℕ) (l l' : List Float) (v : Vec3) (r : Round) : Type 0 where
-  pub opened : Opened s a l l'
+  pub outside : Outside s l l'
+  pub fields : Each (λ g. load vector l' (g .place) (s .cameras) ≡ field (s .cameras) (g .entry)) (segmentsOf s a (load term l 0 (s .cameras)))
   pub sums : v ≡ rightSums s a l'
   pub round : r ≡ firstRound s a l' v
 

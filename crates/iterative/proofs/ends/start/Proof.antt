@@ -10,6 +10,5 @@ start-spec =
     (λ c κs. search needs)
     (λ c κs. search needs)
     (λ c κs. search needs)
-    (λ c κs. search needs)
     (λ c. search needs)
-    (λ c. search started))
+    (λ c. search (started, needs)))

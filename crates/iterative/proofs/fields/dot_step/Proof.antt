@@ -16,5 +16,4 @@ dot-step-spec =
     (λ c. search needs)
     (λ c κs. search needs)
     (λ c κs. search needs)
-    (λ c κs. search needs)
     (λ c. search (dot-added, ne-eqb)))
