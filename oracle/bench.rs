@@ -263,8 +263,9 @@ fn solve(name: &str, net: &Network, route: usize, limit: usize, runs: usize) -> 
         Ok(number) => panic!("{name}: try_new has {number} couplings, not {couplings}"),
         Err(refusal) => refusal,
     };
-    let told = if answered == 2 { format!("{} rounds", grouped(rounds)) } else { "dense".to_string() };
-    let by_plan = format!("{} rounds, {} couplings", grouped(planned_rounds), grouped(couplings));
+    let counted = |rounds| if rounds == 1 { "1 round".to_string() } else { format!("{} rounds", grouped(rounds)) };
+    let told = if answered == 2 { counted(rounds) } else { "dense".to_string() };
+    let by_plan = format!("{}, {} couplings", counted(planned_rounds), grouped(couplings));
     let note = format!("{told}; by its plan {by_plan}; {far:.0e} apart; {checks}");
     (Solve::new(name, [free_time, planned_time, port_time], rounds, note), port.cameras)
 }

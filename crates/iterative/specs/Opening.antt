@@ -1,5 +1,5 @@
--- The pass over the cameras with which the solve starts (R-4): residual, preconditioned residual and search vector are formed at once, and with them
--- the right side, the positions and the first sums.
+-- The pass over the cameras with which the solve starts (document 02, R-4): 'residual, preconditioned vector and search vector shall be formed in
+-- one pass'. The right side, the positions and the first sums are formed in it too.
 use mathlib.Core.Path.{_≡_}
 use mathlib.Core.List.{List, [], _∷_}
 use Prim.Native.Nat.{ℕ, _+_, _*_, _<_, _≤_}
@@ -43,15 +43,21 @@ startSegments s b z =
 abbrev pub segmentsOf : Shape → ℕ → List CameraTerm → List Segment
 segmentsOf s a ts = startSegments s (rightEntry a ts) (preconditionedEntry a (diagonalOf ts) (rightOf (s .cameras) a ts))
 
+-- as fields: the residual, which is the right side, and the search vector, which is the preconditioned residual
+abbrev pub startResidual : Shape → ℕ → List CameraTerm → List Vec3
+startResidual s a ts = rightOf (s .cameras) a ts
+
+abbrev pub startSearch : Shape → ℕ → List CameraTerm → List Vec3
+startSearch s a ts = preconditioned (s .cameras) a (diagonalOf ts) (startResidual s a ts)
+
 -- The pass after its first k cameras: l is the buffer before it and m now; v and w are the square sums of the right side and the products of
 -- residual and preconditioned residual, over these cameras but the anchor. This is the loop's invariant, and at k = n the pass's contract.
 pub record Opened (s : Shape) (a k : ℕ) (l m : List Float) (v w : Vec3) : Type 0 where
   pub buffer : m ≡ filled (segmentsOf s a (load term l 0 (s .cameras))) k l
-  pub sums : v ≡ fieldDot k a (rightOf (s .cameras) a (load term l 0 (s .cameras))) (rightOf (s .cameras) a (load term l 0 (s .cameras)))
-  pub old : w ≡ fieldDot k a (rightOf (s .cameras) a (load term l 0 (s .cameras)))
-      (preconditioned (s .cameras) a (diagonalOf (load term l 0 (s .cameras))) (rightOf (s .cameras) a (load term l 0 (s .cameras))))
+  pub sums : v ≡ fieldDot k a (startResidual s a (load term l 0 (s .cameras))) (startResidual s a (load term l 0 (s .cameras)))
+  pub old : w ≡ fieldDot k a (startResidual s a (load term l 0 (s .cameras))) (startSearch s a (load term l 0 (s .cameras)))
 
--- ---- what that says, camera by camera
+-- ---- 'after its first k cameras, has formed all three for these and left the others' numbers as they were'
 
 -- P of each segment
 abbrev pub Each : (Segment → Type 0) → List Segment → Type 0
