@@ -51,11 +51,12 @@ fn put_start(s: Shape, work: &mut [f64], i: usize, b: Vec3, z: Vec3)
     requires { ⌜ FieldsFit s (length (now work)) × (i < s .cameras) ⌝ }
     ensures { λ r. ⌜ now (work .exit) ≡ putEach (startSegments s (λ j. b) (λ j. z)) i (now (work .entry)) ⌝ }
 {
-    put3(work, positions_at(s) + 3 * i, zero());
-    put3(work, right_at(s) + 3 * i, b);
-    put3(work, residual_at(s) + 3 * i, b);
-    put3(work, preconditioned_at(s) + 3 * i, z);
-    put3(work, search_at(s) + 3 * i, z);
+    let k = 3 * i;
+    put3(work, positions_at(s) + k, zero());
+    put3(work, right_at(s) + k, b);
+    put3(work, residual_at(s) + k, b);
+    put3(work, preconditioned_at(s) + k, z);
+    put3(work, search_at(s) + k, z);
 }
 
 // The same of camera i's term, zero at the anchor; and the camera's products added to the sums.

@@ -28,6 +28,22 @@ ghost use Rattle.iterative.specs.Method.{stepped as steppedOf, searchSte
 ghost use Rattle.iterative.specs.inner.Solver.{FieldStepped, FieldsFit, Preconditioned, TurnPreconditioned, TurnStepped, diagonalIn};
 ghost use Rattle.iterative.specs.inner.Solver.{signed};
 
+// ---- camera i's vector of the field at p
+
+fn get_vector(work: &[f64], p: usize, i: usize) -> Vec3
+    requires { ⌜ p + 3 * i + 3 ≤ length (now work) ⌝ }
+    ensures { λ r. ⌜ r ≡ get vector (now (work .entry)) (p + 3 * i) ⌝ }
+{
+    get3(work, p + 3 * i)
+}
+
+fn put_vector(work: &mut [f64], p: usize, i: usize, v: Vec3)
+    requires { ⌜ p + 3 * i + 3 ≤ length (now work) ⌝ }
+    ensures { λ r. ⌜ now (work .exit) ≡ put vector (now (work .entry)) (p + 3 * i) v ⌝ }
+{
+    put3(work, p + 3 * i, v);
+}
+
 // ---- sums
 
 // The products on each axis added to a sum.
@@ -49,7 +65,7 @@ fn dot_step(work: &[f64], n: usize, anchor: usize, p: usize, q: usize, i: usize,
     if i == anchor {
         return sum;
     }
-    add_products(sum, get3(work, p + 3 * i), get3(work, q + 3 * i))
+    add_products(sum, get_vector(work, p, i), get_vector(work, q, i))
 }
 
 // For each component the sum of the products of the fields at p and q, over all cameras but the anchor: the Rust's `component_dot`.
@@ -110,8 +126,8 @@ fn put_preconditioned(work: &mut [f64], anchor: usize, from: usize, into: usize,
     ensures { λ r. ⌜ now (work .exit) ≡ put vector (now (work .entry)) (into + 3 * i)
         (cond (eqb i anchor) origin (over (get vector (now (work .entry)) (from + 3 * i)) (diagonalIn (now (work .entry)) i))) ⌝ }
 {
-    let v = get3(work, from + 3 * i).div(ridged_diagonal(work, i));
-    put3(work, into + 3 * i, anchored(i, anchor, zero(), v));
+    let v = get_vector(work, from, i).div(ridged_diagonal(work, i));
+    put_vector(work, into, i, anchored(i, anchor, zero(), v));
 }
 
 // The same, and camera i's products with the field at `from` added to the sum.
@@ -163,14 +179,14 @@ fn put_stepped(
     along: usize,
     i: usize,
 )
-    requires { ⌜ (i < 4096) × (into + 3 * i + 3 ≤ length (now work)) × (along + 3 * i + 3 ≤ length (now work)) ⌝ }
+    requires { ⌜ (into + 3 * i + 3 ≤ length (now work)) × (along + 3 * i + 3 ≤ length (now work)) ⌝ }
     ensures { λ r. ⌜ now (work .exit) ≡ put vector (now (work .entry)) (into + 3 * i)
         (cond (eqb i anchor) (get vector (now (work .entry)) (into + 3 * i))
         (steppedOf (signed adds) active alpha (get vector (now (work .entry)) (into + 3 * i)) (get vector (now (work .entry)) (along + 3 * i)))) ⌝ }
 {
-    let v = get3(work, into + 3 * i);
-    let w = stepped(adds, active, alpha, v, get3(work, along + 3 * i));
-    put3(work, into + 3 * i, anchored(i, anchor, v, w));
+    let v = get_vector(work, into, i);
+    let w = stepped(adds, active, alpha, v, get_vector(work, along, i));
+    put_vector(work, into, i, anchored(i, anchor, v, w));
 }
 
 // The same, and the squares of camera i's vector added to the sum.
@@ -218,13 +234,13 @@ pub(crate) fn step_field(
 }
 
 fn put_search(work: &mut [f64], active: Active, beta: Vec3, from: usize, into: usize, i: usize)
-    requires { ⌜ (i < 4096) × (from + 3 * i + 3 ≤ length (now work)) × (into + 3 * i + 3 ≤ length (now work)) ⌝ }
+    requires { ⌜ (from + 3 * i + 3 ≤ length (now work)) × (into + 3 * i + 3 ≤ length (now work)) ⌝ }
     ensures { λ r. ⌜ now (work .exit) ≡ put vector (now (work .entry)) (into + 3 * i)
         (searchStep active beta (get vector (now (work .entry)) (from + 3 * i)) (get vector (now (work .entry)) (into + 3 * i))) ⌝ }
 {
-    let z = get3(work, from + 3 * i);
-    let v = search_step(active, beta, z, get3(work, into + 3 * i));
-    put3(work, into + 3 * i, v);
+    let z = get_vector(work, from, i);
+    let v = search_step(active, beta, z, get_vector(work, into, i));
+    put_vector(work, into, i, v);
 }
 
 // The next search vector at `into`, of the field at `from`.
@@ -250,12 +266,12 @@ pub(crate) fn update_search(
 }
 
 fn put_difference(work: &mut [f64], from: usize, into: usize, i: usize)
-    requires { ⌜ (i < 4096) × (from + 3 * i + 3 ≤ length (now work)) × (into + 3 * i + 3 ≤ length (now work)) ⌝ }
+    requires { ⌜ (from + 3 * i + 3 ≤ length (now work)) × (into + 3 * i + 3 ≤ length (now work)) ⌝ }
     ensures { λ r. ⌜ now (work .exit) ≡ put vector (now (work .entry)) (into + 3 * i)
         (minus (get vector (now (work .entry)) (into + 3 * i)) (get vector (now (work .entry)) (from + 3 * i))) ⌝ }
 {
-    let v = get3(work, into + 3 * i).sub(get3(work, from + 3 * i));
-    put3(work, into + 3 * i, v);
+    let v = get_vector(work, into, i).sub(get_vector(work, from, i));
+    put_vector(work, into, i, v);
 }
 
 // The field at `into` less the field at `from`.

@@ -9,11 +9,7 @@ dot-step-spec =
     tie.close
     (tie.spec
     (λ c. search (dot-same, eq-eqb))
-    (λ c. search needs)
-    (λ c. search needs)
     (λ c κs. search needs)
-    (λ c. search needs)
-    (λ c. search needs)
     (λ c κs. search needs)
     (λ c κs. search needs)
     (λ c. search (dot-added, ne-eqb)))

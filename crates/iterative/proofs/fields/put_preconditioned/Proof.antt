@@ -6,13 +6,9 @@ pub put-preconditioned-spec : {M : Type 1} → statement M
 put-preconditioned-spec =
     tie.close
     (tie.spec
-    (λ c. search needs)
-    (λ c. search needs)
     (λ c κs. search needs)
     (λ c κs. search needs)
     (λ c κs. search needs)
-    (λ c. search needs)
-    (λ c. search needs)
     (λ c κs. search needs)
     (λ c κs. search needs)
     (λ c κs. search needs)
