@@ -191,8 +191,9 @@ start-formed s a k l = cameras-formed s a l k
 
 -- ---- one turn: the five puts; at the anchor, and at another camera
 
-pub put-started : (s : Shape) (i p q r t u : ℕ) (o b z : Vec3) (l l1 l2 l3 l4 l5 : List Float) → FieldsFit s (length l) → p ≡ positionsAt s → q ≡ rightAt s → r ≡ residualAt s → t ≡ preconditionedAt s → u ≡ searchAt s →
-    o ≡ origin → l1 ≡ put vector l (p + 3 * i) o → l2 ≡ put vector l1 (q + 3 * i) b → l3 ≡ put vector l2 (r + 3 * i) b → l4 ≡ put vector l3 (t + 3 * i) z → l5 ≡ put vector l4 (u + 3 * i) z →
+pub put-started : (s : Shape) (i p q r t u : ℕ) (o b z : Vec3) (l l1 l2 l3 l4 l5 : List Float) → FieldsFit s (length l) →
+    p ≡ positionsAt s → q ≡ rightAt s → r ≡ residualAt s → t ≡ preconditionedAt s → u ≡ searchAt s → o ≡ origin →
+    l1 ≡ put vector l (p + 3 * i) o → l2 ≡ put vector l1 (q + 3 * i) b → l3 ≡ put vector l2 (r + 3 * i) b → l4 ≡ put vector l3 (t + 3 * i) z → l5 ≡ put vector l4 (u + 3 * i) z →
     l5 ≡ putEach (startSegments s (λ j. b) (λ j. z)) i l
 put-started s i p q r t u o b z l l1 l2 l3 l4 l5 R ep eq er et eu eo f1 f2 f3 f4 f5 = f5 ∙ rw (f4, f3, f2, f1, ep, eq, er, et, eu, eo)
 
