@@ -9,7 +9,7 @@ use lib.ListN.{length}
 use lib.Ieee.{Float}
 use Rattle.field.proofs.Counting.{length-field}
 use Rattle.field.specs.Buffer.{load, store, vector}
-use Rattle.field.specs.Count.{lowest}
+use Rattle.field.specs.Count.{field, lowest}
 use Rattle.field.specs.declared.Place.{Place}
 use Rattle.field.specs.declared.Place.the-variants.{At, Nowhere}
 use Rattle.field.specs.declared.Vec3.{Vec3}
@@ -28,7 +28,7 @@ use Rattle.iterative.proofs.Opening.{opened-fields, opened-outside}
 use Rattle.iterative.proofs.Running.{rounds-over}
 use Rattle.iterative.specs.Method.{Run, State, accepted, acceptedUnless, allowed, allowedOf, badDiagonal, badResidual, boundOf, closed, component, difference, ended, failed}
 use Rattle.iterative.specs.Method.{opened, refused, residualOf, rounds, solution, squareSum, start, startsActive}
-use Rattle.iterative.specs.Opening.{Opened}
+use Rattle.iterative.specs.Opening.{Each, Opened, segmentsOf}
 use Rattle.iterative.specs.Problem.{Problem, fieldDot, mostRounds}
 use Rattle.iterative.specs.Reduced.{problem, problemBy, rightOf}
 use Rattle.iterative.specs.declared.Active.{Active}
@@ -37,21 +37,28 @@ use Rattle.iterative.specs.declared.Outcome.the-variants.{Failed as NotP
 use Rattle.iterative.specs.declared.Round.{Round}
 use Rattle.iterative.specs.declared.Step.{Step}
 use Rattle.iterative.specs.declared.Step.the-variants.{Ended, Failed, Running}
-use Rattle.iterative.specs.inner.Solver.{Concluded, FieldsFit, Iterated, IterativeSolved, Settled, Started, Tested, answerOf, begun}
+use Rattle.iterative.specs.inner.Solver.{Concluded, Iterated, IterativeSolved, Outside, Settled, Started, Tested, answerOf, begun}
 use Rattle.iterative.specs.inner.Solver.{problemIn, rightSums, roundsFrom, runIn, stateIn}
 
 -- ---- the start
 
-pub started : (s : Shape) (a : ℕ) (l l' : List Float) (v w bound : Vec3) (active : Active) → FieldsFit s (length l) → Opened s a (s .cameras) l l' v w →
-    bound ≡ boundOf v → active ≡ startsActive bound v → Started s a l l' v (record { old = w; active = active; count = 0 })
-started s a l l' v w bound active R O e f =
-    let F = opened-fields s a l l' v w O (R .room) in
-    record {
-      outside = opened-outside s a l l' v w O;
-      fields = F;
-      sums = O .sums ∙ rw (F .1 .0);
-      round = rw (f, e, F .1 .1 .0, F .1 .1 .1 .1 .0, O .old);
-    }
+pub started : (s : Shape) (a : ℕ) (l l' : List Float) (v w bound : Vec3) (active : Active) → Opened s a (s .cameras) l l' v w → bound ≡ boundOf v →
+    active ≡ startsActive bound v → Started s a l l' v (record { old = w; active = active; count = 0 })
+started s a l l' v w bound active O e f = record { opened = O; active = rw e at f; count = refl }
+
+-- what the rounds read of it
+module _ (s : Shape) (a : ℕ) (l l1 : List Float) (v : Vec3) (r : Round) (room : matrixAt s ≤ length l) (S : Started s a l l1 v r) where
+  started-outside : Outside s l l1
+  started-outside = opened-outside s a l l1 v (r .old) (S .opened)
+
+  started-fields : Each (λ g. load vector l1 (g .place) (s .cameras) ≡ field (s .cameras) (g .entry)) (segmentsOf s a (load term l 0 (s .cameras)))
+  started-fields = opened-fields s a l l1 v (r .old) (S .opened) (omega arith)
+
+  pub started-room : matrixAt s ≤ length l1
+  started-room = rw (started-outside .size) room
+
+  pub started-sums : v ≡ rightSums s a l1
+  started-sums = S .opened .sums ∙ rw (started-fields .1 .0)
 
 -- ---- the end
 
@@ -143,50 +150,53 @@ module _ (s : Shape) (ends offsets listed : List ℕ) (a : ℕ) (l : List Float)
       }
 
   -- once the start is made: the system in the buffer, and the state
-  module _ (l1 : List Float) (sums : Vec3) (first : Round) (S : Started s a l l1 sums first) where
+  module _ (l1 : List Float) (sums : Vec3) (first : Round) (room : matrixAt s ≤ length l) (S : Started s a l l1 sums first) where
     started-problem : problemIn L a l1 ≡ own
     unfolding problemBy
     started-problem =
+        let O = started-outside s a l l1 sums first room S in
         λ i. record {
           cameras = n;
           anchor = a;
-          diagonal = diagonalOf (S .outside .terms i);
-          right = S .fields .1 .0 i;
-          operator = reducedBy L (weights-kept s l l1 (S .outside .rest) i) a;
+          diagonal = diagonalOf (O .terms i);
+          right = started-fields s a l l1 sums first room S .1 .0 i;
+          operator = reducedBy L (weights-kept s l l1 (O .rest) i) a;
         }
 
     started-state : stateIn s l1 first ≡ start own
     unfolding problemBy start squareSum
-    started-state = let F = S .fields in rw (S .round, S .sums, F .0, F .1 .0, F .1 .1 .0, F .1 .1 .1 .1 .0)
+    started-state =
+        let F = started-fields s a l l1 sums first room S in
+        let e : first .active ≡ startsActive (boundOf (squareSum own)) (squareSum own) = S .active ∙ rw (S .opened .sums) in
+        λ i. record {
+          positions = F .0 i;
+          residual = F .1 .1 .0 i;
+          search = F .1 .1 .1 .1 .0 i;
+          round = record { old = S .opened .old i; active = e i; count = S .count i };
+        }
 
   pub solved-run : (l1 l2 l3 : List Float) (sums : Vec3) (first : Round) (x : Step) (o : Outcome) →
-      lowest (badDiagonal a (diagonalOf (load term l 0 n))) n ≡ Nowhere → Started s a l l1 sums first →
+      lowest (badDiagonal a (diagonalOf (load term l 0 n))) n ≡ Nowhere → matrixAt s ≤ length l → Started s a l l1 sums first →
       Iterated s (problemIn (links s ends offsets listed) a l1) (begun (stateIn s l1 first)) l1 l2 x →
       Concluded s (problemIn (links s ends offsets listed) a l2) (runIn s l2 x) l2 l3 o →
       IterativeSolved s own l l3 o
-  solved-run l1 l2 l3 sums first x o e S I0 C0 =
-      let p1 : problemIn L a l1 ≡ own = started-problem l1 sums first S in
+  solved-run l1 l2 l3 sums first x o e room S I0 C0 =
+      let p1 : problemIn L a l1 ≡ own = started-problem l1 sums first room S in
       let I : Iterated s own (begun (stateIn s l1 first)) l1 l2 x = subst (λ (Q : Problem). Iterated s Q (begun (stateIn s l1 first)) l1 l2 x) p1 I0 in
       let p2 : problemIn L a l2 ≡ own = problem-in-kept L a l1 l2 (I .kept) ∙ p1 in
       let C : Concluded s own (runIn s l2 x) l2 l3 o = subst (λ (Q : Problem). Concluded s Q (runIn s l2 x) l2 l3 o) p2 C0 in
-      let b : begun (stateIn s l1 first) ≡ begun (start own) = ap begun (started-state l1 sums first S) in
+      let b : begun (stateIn s l1 first) ≡ begun (start own) = ap begun (started-state l1 sums first room S) in
       let q : solution own ≡ closed own (runIn s l2 x) = found-is Nowhere e ∙ sym (ap (closed own) (I .run ∙ ap (roundsFrom own (mostRounds n)) b)) in
       record {
         answer = C .answer ∙ sym (ap answerOf q);
         positions = λ t u. C .kept .positions ∙ closed-positions own s l2 x t (sym q ∙ u);
-        outside = outside-then (S .outside) (outside-then (I .kept .outside) (C .kept .kept .outside));
+        outside = outside-then (started-outside s a l l1 sums first room S) (outside-then (I .kept .outside) (C .kept .kept .outside));
       }
 
 pub none-bad : (p : Place) (f : ℕ → Bool) (n : ℕ) → p ≡ lowest f n → p ≡ Nowhere → lowest f n ≡ Nowhere
 none-bad p f n e h = sym e ∙ h
 
 -- what the rounds and the end need of the calls before
-pub started-room : (s : Shape) (a : ℕ) (l l1 : List Float) (v : Vec3) (r : Round) → Started s a l l1 v r → matrixAt s ≤ length l → matrixAt s ≤ length l1
-started-room s a l l1 v r S h = rw (S .outside .size) h
-
-pub started-count : (s : Shape) (a : ℕ) (l l1 : List Float) (v : Vec3) (r : Round) → Started s a l l1 v r → r .count ≡ 0
-started-count s a l l1 v r S = ap (λ (x : Round). x .count) (S .round)
-
 pub iterated-room : (s : Shape) (P : Problem) (x : Run) (l1 l2 : List Float) (t : Step) → Iterated s P x l1 l2 t → matrixAt s ≤ length l1 → matrixAt s ≤ length l2
 iterated-room s P x l1 l2 t I h = rw (I .kept .outside .size) h
 

@@ -7,7 +7,7 @@ use lib.Dec.{eqb}
 use lib.ListN.{drop, length}
 use lib.Ieee.{Float, add, binary64, sub}
 use Rattle.field.specs.Buffer.{get, load, put as putAt, store, vector}
-use Rattle.field.specs.Count.{field, upto}
+use Rattle.field.specs.Count.{upto}
 use Rattle.field.specs.Vec.{origin, over, plus}
 use Rattle.field.specs.declared.Place.{Place}
 use Rattle.field.specs.declared.Vec3.{Vec3}
@@ -21,7 +21,7 @@ use Rattle.operator.specs.Operator.{reducedBy}
 use Rattle.iterative.specs.Method.{Ending, Run, State, accepted, allowed, any, badResidual, boundOf, closed, component, continued, ended}
 use Rattle.iterative.specs.Method.{failed, flag, moved, next, preconditioned, redirect, refused, residualOf, round, running, solution}
 use Rattle.iterative.specs.Method.{startsActive, step, stepped, steppedField}
-use Rattle.iterative.specs.Opening.{Each, Segment, segmentsOf, startSegments}
+use Rattle.iterative.specs.Opening.{Opened, Segment, startSegments}
 use Rattle.iterative.specs.Problem.{Problem, dotStep, fieldDot, mostRounds, times}
 use Rattle.iterative.specs.declared.Active.{Active}
 use Rattle.iterative.specs.declared.Outcome.{Outcome}
@@ -192,20 +192,11 @@ pub record Iterated (s : Shape) (P : Problem) (x : Run) (l l' : List Float) (t :
 abbrev pub begun : State → Run
 begun s = cond (any (s .round .active)) (running s) (ended s)
 
--- the first round's record, of the fields in the buffer and the right side's square sums
-abbrev pub firstRound : Shape → ℕ → List Float → Vec3 → Round
-firstRound s a l sums = record {
-  old = fieldDot (s .cameras) a (load vector l (residualAt s) (s .cameras)) (load vector l (searchAt s) (s .cameras));
-  active = startsActive (boundOf sums) sums;
-  count = 0;
-}
-
--- the start is made: its segments, the square sums of the right side, and the first round's record
+-- the start is made: the pass over all cameras, whose sums are v and the first old products, the flags, and no round
 pub record Started (s : Shape) (a : ℕ) (l l' : List Float) (v : Vec3) (r : Round) : Type 0 where
-  pub outside : Outside s l l'
-  pub fields : Each (λ g. load vector l' (g .place) (s .cameras) ≡ field (s .cameras) (g .entry)) (segmentsOf s a (load term l 0 (s .cameras)))
-  pub sums : v ≡ rightSums s a l'
-  pub round : r ≡ firstRound s a l' v
+  pub opened : Opened s a (s .cameras) l l' v (r .old)
+  pub active : r .active ≡ startsActive (boundOf v) v
+  pub count : r .count ≡ 0
 
 -- ---- the end
 

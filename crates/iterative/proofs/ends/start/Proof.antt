@@ -11,4 +11,4 @@ start-spec =
     (λ c κs. search needs)
     (λ c κs. search needs)
     (λ c. search needs)
-    (λ c. search (started, needs)))
+    (λ c. search started))
