@@ -9,10 +9,13 @@
 //! A time is the processor time of this thread, the least of several runs on warm buffers and of several passes over everything. The
 //! Rust's plan and workspace are made before the clock starts, as the kernel does, and its effective weights too: the kernel forms
 //! them together with the robust weights. A Rust solve is its sums, assembly (couplings too, where they are on), anchor, solve and
-//! points together. A port's solve is the whole call, its tests 1 to 8 and the effective weights included, with a work buffer that
-//! holds the zeros of the call before.
+//! points together. A port's solve is the whole call, its tests 1 to 8 and the effective weights included, with a work buffer and marks
+//! that hold the zeros of the call before.
+//!
+//! Point lists are ascending, but where a name ends in 'lists shuffled': that network is the one without these words otherwise. What testing 6
+//! takes of each call, its marks included, is the difference of two calls of solve that are refused at the last place, by 6 and just before.
 
-use networks::{Network, block_of, full, generate};
+use networks::{Network, Random, block_of, drawn, full};
 use oracle::{Oracle, ReducedSystemBackend, Tag, few, tried};
 use port::Port;
 use std::time::Duration;
@@ -36,7 +39,7 @@ mod port {
             n: usize, m: usize, b: usize, e: usize,
             ends: *const usize, ends_len: usize, rays: *const f64, rays_len: usize, weights: *const f64, weights_len: usize,
             scales: *const f64, scales_len: usize, points: *const f64, points_len: usize, offsets: *const usize, offsets_len: usize,
-            rows: *const usize, rows_len: usize,
+            rows: *const usize, rows_len: usize, marks: *mut usize, marks_len: usize,
             route: usize, limit: usize,
             work: *mut f64, work_len: usize, cameras: *mut f64, cameras_len: usize, placed: *mut f64, placed_len: usize,
             report: *mut usize, report_len: usize,
@@ -45,7 +48,7 @@ mod port {
             n: usize, m: usize, b: usize, e: usize,
             ends: *const usize, ends_len: usize, rays: *const f64, rays_len: usize, weights: *const f64, weights_len: usize,
             scales: *const f64, scales_len: usize, points: *const f64, points_len: usize, offsets: *const usize, offsets_len: usize,
-            rows: *const usize, rows_len: usize,
+            rows: *const usize, rows_len: usize, marks: *mut usize, marks_len: usize,
             current: *const f64, current_len: usize, trial: *const f64, trial_len: usize, mark: usize,
             out: *mut f64, out_len: usize, report: *mut usize, report_len: usize,
         ) -> usize;
@@ -53,7 +56,7 @@ mod port {
             n: usize, m: usize, b: usize, e: usize,
             ends: *const usize, ends_len: usize, rays: *const f64, rays_len: usize, weights: *const f64, weights_len: usize,
             scales: *const f64, scales_len: usize, points: *const f64, points_len: usize, offsets: *const usize, offsets_len: usize,
-            rows: *const usize, rows_len: usize,
+            rows: *const usize, rows_len: usize, marks: *mut usize, marks_len: usize,
             current: *const f64, current_len: usize, trial: *const f64, trial_len: usize, mark: usize,
             out: *mut f64, out_len: usize, report: *mut usize, report_len: usize,
         ) -> usize;
@@ -66,6 +69,7 @@ mod port {
 
     pub struct Port<'a> {
         net: &'a Network,
+        marks: Vec<usize>,
         work: Vec<f64>,
         pub cameras: Vec<f64>,
         pub placed: Vec<f64>,
@@ -78,6 +82,7 @@ mod port {
         pub fn new(net: &'a Network, route: usize, limit: usize) -> Self {
             Self {
                 net,
+                marks: vec![0; net.b],
                 work: vec![0.0; rules::work_length(net.n, net.m, net.b, net.e, route, limit)],
                 cameras: vec![0.0; 3 * net.n],
                 placed: vec![0.0; 3 * net.m],
@@ -93,7 +98,7 @@ mod port {
                 vobzeile_solve(
                     s.n, s.m, s.b, s.e, s.ends.as_ptr(), s.ends.len(), s.rays.as_ptr(), s.rays.len(), s.weights.as_ptr(), s.weights.len(),
                     s.scales.as_ptr(), s.scales.len(), s.points.as_ptr(), s.points.len(), s.offsets.as_ptr(), s.offsets.len(),
-                    s.rows.as_ptr(), s.rows.len(), route, limit, self.work.as_mut_ptr(), self.work.len(),
+                    s.rows.as_ptr(), s.rows.len(), self.marks.as_mut_ptr(), self.marks.len(), route, limit, self.work.as_mut_ptr(), self.work.len(),
                     self.cameras.as_mut_ptr(), self.cameras.len(), self.placed.as_mut_ptr(), self.placed.len(), self.report.as_mut_ptr(), 4,
                 )
             }
@@ -106,7 +111,8 @@ mod port {
                 step(
                     s.n, s.m, s.b, s.e, s.ends.as_ptr(), s.ends.len(), s.rays.as_ptr(), s.rays.len(), s.weights.as_ptr(), s.weights.len(),
                     s.scales.as_ptr(), s.scales.len(), s.points.as_ptr(), s.points.len(), s.offsets.as_ptr(), s.offsets.len(),
-                    s.rows.as_ptr(), s.rows.len(), cameras.as_ptr(), cameras.len(), cameras.as_ptr(), cameras.len(), 0,
+                    s.rows.as_ptr(), s.rows.len(), self.marks.as_mut_ptr(), self.marks.len(),
+                    cameras.as_ptr(), cameras.len(), cameras.as_ptr(), cameras.len(), 0,
                     self.out.as_mut_ptr(), self.out.len(), self.report.as_mut_ptr(), 1,
                 )
             }
@@ -182,8 +188,12 @@ struct Calls {
     dots: [Duration; 2],
     scales: [Duration; 2],
     connectivity: [Duration; 2],
+    /// The port's solve.
+    solve: Duration,
     /// The port: refused by 8, refused by 14.
     refused: [Duration; 2],
+    /// The port: refused by 5 at the last direction (by 4 at the last bearing where there is none), refused by 6 at the last row listed.
+    lists: [Duration; 2],
     /// The Rust: sums and assembly, the same with couplings, couplings compiled, points.
     stages: [Duration; 4],
 }
@@ -194,7 +204,9 @@ impl Calls {
         least(&mut self.dots, &pass.dots);
         least(&mut self.scales, &pass.scales);
         least(&mut self.connectivity, &pass.connectivity);
+        least(std::slice::from_mut(&mut self.solve), &[pass.solve]);
         least(&mut self.refused, &pass.refused);
+        least(&mut self.lists, &pass.lists);
         least(&mut self.stages, &pass.stages);
     }
 
@@ -202,6 +214,14 @@ impl Calls {
         let beside = |[rust, port]: [Duration; 2]| format!("{} / {} = {:.2}", ms(rust), ms(port), ratio(rust, port));
         let [dots, scales, connectivity] = [self.dots, self.scales, self.connectivity].map(beside);
         println!("| {} | {dots} | {scales} | {connectivity} | {} | {} |", self.name, ms(self.refused[0]), ms(self.refused[1]));
+    }
+
+    fn print_lists(&self) {
+        let [before, after] = self.lists;
+        let marks = after.saturating_sub(before);
+        let of = |call: Duration| format!("{:.0} %", 100.0 * ratio(marks, call));
+        let [dots, scales, solve] = [self.dots[1], self.scales[1], self.solve].map(of);
+        println!("| {} | {} | {} | {} | {dots} | {scales} | {solve} |", self.name, ms(before), ms(after), ms(marks));
     }
 
     fn print_stages(&self) {
@@ -270,8 +290,27 @@ fn solve(name: &str, net: &Network, route: usize, limit: usize, runs: usize) -> 
     (Solve::new(name, [free_time, planned_time, port_time], rounds, note), port.cameras)
 }
 
+/// Two calls of solve that are refused right before 6 is tested, and by 6, both at the last place; 6 clears the marks.
+fn lists(name: &str, net: &Network, runs: usize) -> [Duration; 2] {
+    let refused = |net: &Network, wanted: usize| {
+        let mut port = Port::new(net, 1, 0);
+        let (time, number) = best(runs, || port.solve(1, 0));
+        assert!(number == wanted, "{name}: not refused by {wanted}");
+        time
+    };
+    let (mut ends, mut listed) = (net.clone(), net.clone());
+    let last = net.ends.len() - 1;
+    ends.ends[last] = if net.e > 0 { net.ends[last - 1] } else { net.m };
+    if net.b > 1 {
+        listed.rows[net.b - 1] = net.rows[net.b - 2];
+    } else {
+        listed.offsets[0] = 1;
+    }
+    [refused(&ends, if net.e > 0 { 5 } else { 4 }), refused(&listed, 6)]
+}
+
 /// The other calls and stages, dots and scales being of the given cameras and the old points.
-fn calls(name: &str, net: &Network, cameras: &[f64], runs: usize) -> Calls {
+fn calls(name: &str, net: &Network, cameras: &[f64], solve: Duration, runs: usize) -> Calls {
     let mut planned = Oracle::planned(&net.view());
     let sums = best(runs, || planned.sums()).0;
     let with_couplings = sums + best(runs, || planned.assemble()).0;
@@ -303,7 +342,9 @@ fn calls(name: &str, net: &Network, cameras: &[f64], runs: usize) -> Calls {
         dots: [rust_dots, dots],
         scales: [rust_scales, scales],
         connectivity: [rust_connectivity, connectivity],
+        solve,
         refused: [tests, formed],
+        lists: lists(name, net, runs),
         stages: [assembly, with_couplings, compiled, points],
     }
 }
@@ -325,7 +366,7 @@ fn every(oracles: &mut [Oracle], runs: usize, reduced: impl Fn(&mut Oracle) -> b
 /// The ordinary small networks that fit the solve program's image, all together: by the program's route, and by the plan's, which is dense.
 fn small(runs: usize) -> Vec<Solve> {
     let fits = |net: &Network| net.n <= 64 && 52 + 48 * (net.b + net.e) + 24 * net.m <= 16384;
-    let cases: Vec<_> = (64..).map(|number| generate(1, number)).filter(|c| ["block", "strip"].contains(&c.kind) && fits(&c.net)).take(1000).collect();
+    let cases: Vec<_> = (64..).map(|number| drawn(1, number)).filter(|c| ["block", "strip"].contains(&c.kind) && fits(&c.net)).take(1000).collect();
     let mut oracles: Vec<Oracle> = cases.iter().map(|case| Oracle::new(&case.net.view())).collect();
     let mut solves = Vec::new();
     for (route, limit) in [(3, 48), (1, 256)] {
@@ -365,7 +406,7 @@ fn bytes_a_round(net: &Network) -> f64 {
 }
 
 /// The kinds of full-size networks that are timed.
-const FULL: [usize; 7] = [0, 1, 2, 3, 6, 4, 7];
+const FULL: [usize; 10] = [0, 8, 1, 2, 9, 3, 6, 4, 7, 10];
 
 /// Every network once.
 fn pass(runs: usize) -> (Vec<Solve>, Vec<Calls>) {
@@ -373,14 +414,17 @@ fn pass(runs: usize) -> (Vec<Solve>, Vec<Calls>) {
     for kind in FULL {
         let case = full(1, kind);
         let (solved, cameras) = solve(case.kind, &case.net, 2, 0, runs);
+        others.push(calls(case.kind, &case.net, &cameras, solved.times[2], runs.max(3)));
         solves.push(solved);
-        others.push(calls(case.kind, &case.net, &cameras, runs.max(3)));
     }
     let net = block_of(1, 257, 4096, 1024);
-    solves.push(solve("n=257, route 3", &net, 3, 256, runs.max(3)).0);
-    let (solved, cameras) = solve("n=257, route 1 (dense)", &net, 1, 256, runs.max(3));
-    solves.push(solved);
-    others.push(calls("n=257", &net, &cameras, runs.max(3)));
+    for (net, lists) in [(net.clone(), ""), (net.shuffled(&mut Random::new(1, 257)), ", lists shuffled")] {
+        let named = |route: &str| format!("n=257, route {route}{lists}");
+        solves.push(solve(&named("3"), &net, 3, 256, runs.max(3)).0);
+        let (solved, cameras) = solve(&named("1 (dense)"), &net, 1, 256, runs.max(3));
+        others.push(calls(&format!("n=257{lists}"), &net, &cameras, solved.times[2], runs.max(3)));
+        solves.push(solved);
+    }
     solves.extend(small(runs.max(3)));
     (solves, others)
 }
@@ -401,6 +445,9 @@ fn main() {
     println!("\n| network | dots, Rust / port | scales, Rust / port | connectivity, Rust / port | port: tests 1 to 8 alone | port: tests, sums, assembly, clearing |");
     println!("|---|---|---|---|---|---|");
     others.iter().for_each(Calls::print);
+    println!("\n| network | port: tests 1 to 5 alone | tests 1 to 6 alone | 6 with its marks | of dots | of scales | of a solve |");
+    println!("|---|---|---|---|---|---|---|");
+    others.iter().for_each(Calls::print_lists);
     println!("\n| network | Rust: sums and assembly | the same with couplings | couplings compiled, once | points |");
     println!("|---|---|---|---|---|");
     others.iter().for_each(Calls::print_stages);

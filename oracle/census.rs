@@ -19,6 +19,7 @@ fn main() {
         let whole = connected(&net);
         assert_eq!(whole, labels(&net).1 == 1, "case {number}");
         met.meet(if whole { "connected" } else { "disconnected" }, number);
+        met.meet(classes::of_lists(&net), number);
         let answer = solve(&net, route, limit);
         for class in classes::of_solve(net.n, route, &answer) {
             met.meet(class, number);
@@ -31,7 +32,7 @@ fn main() {
     for (kind, count) in kinds {
         println!("  {count:>8}  {kind}");
     }
-    if !(met.report() & classes::no_tens()) {
+    if !(met.report(&[]) & classes::no_tens()) {
         std::process::exit(1);
     }
 }

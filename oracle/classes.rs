@@ -38,8 +38,9 @@ pub const WANTED: [&str; 30] = [
     "disconnected",
 ];
 
-/// The classes of `of_few`, wanted too. The recorded sample is not chosen by them.
+/// The classes of `of_few` and `of_lists`, wanted too. The recorded sample is not chosen by them.
 pub const FEW: [&str; 3] = ["accepted, few 0", "accepted, few above 0", "accepted, few by a point below 1e-12"];
+pub const LISTS: [&str; 2] = ["lists ascending", "lists in another order"];
 
 fn sort(value: f64) -> &'static str {
     if value.is_nan() {
@@ -120,6 +121,12 @@ pub fn of_few(net: &Network, answer: &Result<Placement, Tag>) -> Vec<&'static st
     classes
 }
 
+/// The class of a network by its point lists: ascending under each point, or not.
+pub fn of_lists(net: &Network) -> &'static str {
+    let ascending = net.offsets.windows(2).all(|ends| net.rows[ends[0]..ends[1]].is_sorted());
+    LISTS[!ascending as usize]
+}
+
 /// Prints how often the Rust's own text met 10; whether it never did.
 pub fn no_tens() -> bool {
     println!("10, which the Rust's own text tests and no diagonal can meet: met {} times", oracle::tens());
@@ -135,14 +142,14 @@ impl Met {
         self.0.entry(class.into()).or_insert((0, number)).0 += 1;
     }
 
-    /// Prints the counts; whether every wanted class was met.
-    pub fn report(&self) -> bool {
+    /// Prints the counts; whether every wanted class was met, these included.
+    pub fn report(&self, more: &[String]) -> bool {
         println!("met, and the first case that meets it:");
         for (class, (count, first)) in &self.0 {
             println!("  {count:>8}  {class}  (case {first})");
         }
-        let wanted = || WANTED.iter().chain(&FEW);
-        let holes: Vec<_> = wanted().filter(|class| !self.0.contains_key(**class)).collect();
+        let wanted = || WANTED.iter().chain(&FEW).chain(&LISTS).copied().chain(more.iter().map(String::as_str));
+        let holes: Vec<_> = wanted().filter(|class| !self.0.contains_key(*class)).collect();
         if holes.is_empty() {
             println!("every wanted class was met ({} of them)", wanted().count());
         } else {

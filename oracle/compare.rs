@@ -4,8 +4,8 @@
 //!
 //! Each network: connectivity, parts listing, the solve by its own route and by the others, dots and scales from the network's own
 //! positions and from what the solve placed, the work length, and a spoiled call that 1 to 8 must refuse. Every buffer is lent
-//! with canaries on both sides; after each call the inputs, the outputs, the report, the work buffer and its surplus are compared
-//! whole.
+//! with canaries on both sides; after each call the inputs, the outputs, the report, the marks, the work buffer and its surplus are
+//! compared whole.
 
 mod classes;
 
@@ -19,7 +19,7 @@ unsafe extern "C" {
         n: usize, m: usize, b: usize, e: usize,
         ends: *const usize, ends_len: usize, rays: *const f64, rays_len: usize, weights: *const f64, weights_len: usize,
         scales: *const f64, scales_len: usize, points: *const f64, points_len: usize, offsets: *const usize, offsets_len: usize,
-        rows: *const usize, rows_len: usize,
+        rows: *const usize, rows_len: usize, marks: *mut usize, marks_len: usize,
         route: usize, limit: usize,
         work: *mut f64, work_len: usize, cameras: *mut f64, cameras_len: usize, placed: *mut f64, placed_len: usize,
         report: *mut usize, report_len: usize,
@@ -28,7 +28,7 @@ unsafe extern "C" {
         n: usize, m: usize, b: usize, e: usize,
         ends: *const usize, ends_len: usize, rays: *const f64, rays_len: usize, weights: *const f64, weights_len: usize,
         scales: *const f64, scales_len: usize, points: *const f64, points_len: usize, offsets: *const usize, offsets_len: usize,
-        rows: *const usize, rows_len: usize,
+        rows: *const usize, rows_len: usize, marks: *mut usize, marks_len: usize,
         current: *const f64, current_len: usize, trial: *const f64, trial_len: usize, mark: usize,
         out: *mut f64, out_len: usize, report: *mut usize, report_len: usize,
     ) -> usize;
@@ -36,7 +36,7 @@ unsafe extern "C" {
         n: usize, m: usize, b: usize, e: usize,
         ends: *const usize, ends_len: usize, rays: *const f64, rays_len: usize, weights: *const f64, weights_len: usize,
         scales: *const f64, scales_len: usize, points: *const f64, points_len: usize, offsets: *const usize, offsets_len: usize,
-        rows: *const usize, rows_len: usize,
+        rows: *const usize, rows_len: usize, marks: *mut usize, marks_len: usize,
         current: *const f64, current_len: usize, trial: *const f64, trial_len: usize, mark: usize,
         out: *mut f64, out_len: usize, report: *mut usize, report_len: usize,
     ) -> usize;
@@ -169,7 +169,7 @@ impl Bits for usize {
     }
 }
 
-/// A network as a call lends it; its lengths may be spoiled.
+/// A network as a call lends it, and what the marks hold at first; its lengths may be spoiled.
 struct Call {
     n: usize,
     m: usize,
@@ -182,10 +182,23 @@ struct Call {
     points: Lent<f64>,
     offsets: Lent<usize>,
     rows: Lent<usize>,
+    marks: Vec<usize>,
+}
+
+/// Marks as a call may find them: canaries, ones, row numbers, or zeros and ones. None of it may show.
+fn soiled(length: usize, random: &mut Random) -> Vec<usize> {
+    let kind = random.below(4);
+    let mark = |place: usize| match kind {
+        0 => usize::canary(place + 100),
+        1 => 1,
+        2 => place,
+        _ => random.below(2),
+    };
+    (0..length).map(mark).collect()
 }
 
 impl Call {
-    fn new(net: &Network) -> Self {
+    fn new(net: &Network, random: &mut Random) -> Self {
         Self {
             n: net.n,
             m: net.m,
@@ -198,6 +211,7 @@ impl Call {
             points: Lent::holding("points", &net.points),
             offsets: Lent::holding("offsets", &net.offsets),
             rows: Lent::holding("rows", &net.rows),
+            marks: soiled(net.b, random),
         }
     }
 
@@ -234,6 +248,12 @@ fn answered(what: &str, got: usize, wanted: usize, differences: &mut Vec<String>
     }
 }
 
+/// The marks are all zero once 6 has been tested, whatever the answer, and untouched where 1 to 5 refuse.
+fn cleared(marks: &Lent<usize>, refusal: Option<rules::Refusal>, differences: &mut Vec<String>) {
+    let zeros = if rules::lists_tested(refusal) { marks.len() } else { 0 };
+    marks.check(&vec![0; zeros], differences);
+}
+
 /// The refusal's place is the report's first number, if it has one; 3 leaves a report that has not `length` numbers.
 fn refused(report: &Lent<usize>, length: usize, (number, place): rules::Refusal, differences: &mut Vec<String>) {
     let left = number == 3 && report.len() != length;
@@ -257,6 +277,7 @@ struct Room {
 type Solved = Result<Result<Placement, Tag>, rules::Refusal>;
 
 fn compare_solve(call: &Call, route: usize, limit: usize, room: Room, differences: &mut Vec<String>) -> Solved {
+    let mut marks = Lent::holding("marks", &call.marks);
     let mut work: Lent<f64> = Lent::blank("work", room.work);
     let mut cameras: Lent<f64> = Lent::blank("cameras", room.cameras);
     let mut placed: Lent<f64> = Lent::blank("placed", room.placed);
@@ -266,7 +287,7 @@ fn compare_solve(call: &Call, route: usize, limit: usize, room: Room, difference
             call.n, call.m, call.b, call.e,
             call.ends.ptr(), call.ends.len(), call.rays.ptr(), call.rays.len(), call.weights.ptr(), call.weights.len(),
             call.scales.ptr(), call.scales.len(), call.points.ptr(), call.points.len(), call.offsets.ptr(), call.offsets.len(),
-            call.rows.ptr(), call.rows.len(),
+            call.rows.ptr(), call.rows.len(), marks.mut_ptr(), marks.len(),
             route, limit,
             work.mut_ptr(), work.len(), cameras.mut_ptr(), cameras.len(), placed.mut_ptr(), placed.len(),
             report.mut_ptr(), report.len(),
@@ -274,12 +295,14 @@ fn compare_solve(call: &Call, route: usize, limit: usize, room: Room, difference
     };
     let net = call.view();
     let needed = || rules::work_length(net.n, net.m, net.b, net.e, route, limit);
-    let fit = || room.work >= needed() && room.cameras == 3 * net.n && room.placed == 3 * net.m && room.report == SOLVE_REPORT;
+    let outputs_fit = || room.cameras == 3 * net.n && room.placed == 3 * net.m && room.report == SOLVE_REPORT;
+    let fit = || room.work >= needed() && marks.len() == net.b && outputs_fit();
     let solved = match rules::solve(&net, route, limit, fit) {
         Some(refusal) => Err(refusal),
         None => Ok(oracle::solve(&net, route, limit)),
     };
     call.untouched(differences);
+    cleared(&marks, solved.as_ref().err().copied(), differences);
     match &solved {
         Err(refusal) => {
             answered("solve's refusal", got, refusal.0, differences);
@@ -328,16 +351,18 @@ fn compare_step(
     let current = Lent::holding("current", &current);
     let trial = Lent::holding("trial", &trial);
     let length = call.weights.len() + (short == Some(2)) as usize;
-    let fit = || current.len() == 3 * net.n && trial.len() == 3 * net.n && length == net.b + net.e && told == REPORT;
+    let cameras_fit = || current.len() == 3 * net.n && trial.len() == 3 * net.n;
+    let fit = || cameras_fit() && length == net.b + net.e && call.marks.len() == net.b && told == REPORT;
     let refusal = rules::step(&net, &marked, fit);
     type Step = unsafe extern "C" fn(
         usize, usize, usize, usize,
         *const usize, usize, *const f64, usize, *const f64, usize, *const f64, usize, *const f64, usize, *const usize, usize, *const usize, usize,
-        *const f64, usize, *const f64, usize, usize, *mut f64, usize, *mut usize, usize,
+        *mut usize, usize, *const f64, usize, *const f64, usize, usize, *mut f64, usize, *mut usize, usize,
     ) -> usize;
     let steps: [(&'static str, Step, fn(&oracle::Network, &[f64]) -> Vec<f64>); 2] =
         [("dots", vobzeile_dots, oracle::dots), ("scales", vobzeile_scales, oracle::scales)];
     for (name, step, of) in steps {
+        let mut marks = Lent::holding("marks", &call.marks);
         let mut out: Lent<f64> = Lent::blank(name, length);
         let mut report: Lent<usize> = Lent::blank("report", told);
         let got = unsafe {
@@ -345,7 +370,7 @@ fn compare_step(
                 call.n, call.m, call.b, call.e,
                 call.ends.ptr(), call.ends.len(), call.rays.ptr(), call.rays.len(), call.weights.ptr(), call.weights.len(),
                 call.scales.ptr(), call.scales.len(), call.points.ptr(), call.points.len(), call.offsets.ptr(), call.offsets.len(),
-                call.rows.ptr(), call.rows.len(),
+                call.rows.ptr(), call.rows.len(), marks.mut_ptr(), marks.len(),
                 current.ptr(), current.len(), trial.ptr(), trial.len(), mark, out.mut_ptr(), out.len(), report.mut_ptr(), report.len(),
             )
         };
@@ -362,6 +387,7 @@ fn compare_step(
             }
         }
         call.untouched(differences);
+        cleared(&marks, refusal, differences);
         current.untouched(differences);
         trial.untouched(differences);
     }
@@ -459,17 +485,43 @@ fn change<T: Held>(lent: &mut Lent<T>, change: impl FnOnce(&mut Vec<T>)) {
     *lent = Lent::holding(lent.name, &numbers);
 }
 
+/// The places of a list that names `least` rows or more.
+fn listed(net: &Network, least: usize, random: &mut Random) -> Option<std::ops::Range<usize>> {
+    let lists: Vec<_> = net.offsets.windows(2).map(|ends| ends[0]..ends[1]).filter(|list| list.len() >= least).collect();
+    (!lists.is_empty()).then(|| lists[random.below(lists.len())].clone())
+}
+
+/// The calls that test 6, by the names that their refusals are counted under.
+const SOLVE: &str = "spoiled solve";
+const STEP: &str = "spoiled dots and scales";
+
+/// Mistakes that are counted apart where a call has no other: the first is refused by 3, the others by 6.
+const MARKS: &str = "marks";
+const REPEATED: &str = "a row repeated";
+const ELSEWHERE: &str = "two rows under each other's points";
+const MISSING: &str = "a row missing";
+
+/// The refusals of spoiled calls that must be met.
+fn wanted() -> Vec<String> {
+    let numbers = (1..=8).map(|number| format!("{SOLVE} refused {number}")).chain((1..=7).map(|number| format!("{STEP} refused {number}")));
+    let causes = [(3, MARKS), (6, REPEATED), (6, ELSEWHERE), (6, MISSING)];
+    let apart = [SOLVE, STEP].into_iter().flat_map(|name| causes.map(|(number, mistake)| format!("{name} refused {number}: {mistake}")));
+    numbers.chain(apart).collect()
+}
+
 /// A call with one to three mistakes, so that the order of the refusals shows; what was mistaken is counted by the refusal met.
 fn compare_spoiled(case: &Case, random: &mut Random, differences: &mut Vec<String>, met: &mut Met, number: u64) {
-    let mut call = Call::new(&case.net);
+    let mut call = Call::new(&case.net, random);
     let (mut route, mut limit) = (case.route, case.limit);
     let mut room = room(&case.net, route, limit, random.below(3));
     let mut cameras = case.cameras.clone();
     let (mut more, mut off, mut short) = (0, 0, None);
     let rows = case.net.b + case.net.e;
     let bad = [f64::NAN, f64::INFINITY, f64::NEG_INFINITY];
-    for _ in 0..random.among(1, 3) {
-        match random.below(26) {
+    let mistakes = random.among(1, 3);
+    let mut mistake = None;
+    for _ in 0..mistakes {
+        match random.below(30) {
             0 => call.n = random.pick(&[0, 4097, usize::MAX, call.n + 1, 1 << 63]),
             1 => call.m = random.pick(&[65537, usize::MAX, call.m + 1, call.m.wrapping_sub(1), usize::MAX / 3 + 1]),
             2 => call.b = random.pick(&[262145, usize::MAX, call.b + 1, call.b.wrapping_sub(1), 1 << 63]),
@@ -508,6 +560,7 @@ fn compare_spoiled(case: &Case, random: &mut Random, differences: &mut Vec<Strin
                 let value = random.pick(&[0, case.net.b, usize::MAX, case.net.b - 1]);
                 change(&mut call.rows, |x| if place < x.len() { x[place] = value });
             }
+            // no mistake where both are under one point
             19 if case.net.b > 1 => {
                 let (one, other) = (random.below(case.net.b), random.below(case.net.b));
                 change(&mut call.rows, |x| if one.max(other) < x.len() { x.swap(one, other) });
@@ -540,6 +593,40 @@ fn compare_spoiled(case: &Case, random: &mut Random, differences: &mut Vec<Strin
                     cameras[place] = random.pick(&bad);
                 }
             }
+            25 => {
+                if random.chance(50) {
+                    call.marks.push(1);
+                    mistake = Some(MARKS);
+                } else if call.marks.pop().is_some() {
+                    mistake = Some(MARKS);
+                }
+            }
+            26 => {
+                if let Some(list) = listed(&case.net, 2, random) {
+                    let (one, by) = (random.below(list.len()), random.among(1, list.len() - 1));
+                    let (place, other) = (list.start + one, list.start + (one + by) % list.len());
+                    change(&mut call.rows, |x| if list.end <= x.len() { x[place] = x[other] });
+                    mistake = Some(REPEATED);
+                }
+            }
+            27 => {
+                if let (Some(one), Some(other)) = (listed(&case.net, 1, random), listed(&case.net, 1, random)) {
+                    if one != other {
+                        let (place, other) = (random.among(one.start, one.end - 1), random.among(other.start, other.end - 1));
+                        change(&mut call.rows, |x| if place.max(other) < x.len() { x.swap(place, other) });
+                        mistake = Some(ELSEWHERE);
+                    }
+                }
+            }
+            // the row goes to the end, and the lists after it start one earlier
+            28 => {
+                if let Some(list) = listed(&case.net, 1, random) {
+                    let place = random.among(list.start, list.end - 1);
+                    change(&mut call.rows, |x| if place < x.len() { x[place..].rotate_left(1) });
+                    change(&mut call.offsets, |x| x.iter_mut().filter(|offset| **offset > place).for_each(|offset| *offset -= 1));
+                    mistake = Some(MISSING);
+                }
+            }
             _ => {
                 route = random.pick(&[0, 4, usize::MAX, route]);
                 limit = random.pick(&[257, usize::MAX, 256, limit]);
@@ -551,12 +638,19 @@ fn compare_spoiled(case: &Case, random: &mut Random, differences: &mut Vec<Strin
         room.report = random.pick(&[0, 1, 3, 5]);
         told = random.pick(&[0, 2, 3]);
     }
+    let only = mistake.filter(|_| mistakes == 1 && room.report == SOLVE_REPORT);
     let met_by = |name: &str, refusal: &rules::Refusal| format!("{name} refused {}", refusal.0);
+    let mut meet = |name: &str, refusal: &rules::Refusal| {
+        met.meet(met_by(name, refusal), number);
+        if let Some(mistake) = only {
+            met.meet(format!("{}: {mistake}", met_by(name, refusal)), number);
+        }
+    };
     if let Err(refusal) = compare_solve(&call, route, limit, room, differences) {
-        met.meet(met_by("spoiled solve", &refusal), number);
+        meet(SOLVE, &refusal);
     }
     if let Some(refusal) = compare_step(&call, &cameras, random.below(2), short, told, differences) {
-        met.meet(met_by("spoiled dots and scales", &refusal), number);
+        meet(STEP, &refusal);
     }
     if let Some(refusal) = compare_graph(&call, more, off, told, differences) {
         met.meet(met_by("spoiled graph calls", &refusal), number);
@@ -566,9 +660,10 @@ fn compare_spoiled(case: &Case, random: &mut Random, differences: &mut Vec<Strin
 
 fn compare(case: &Case, random: &mut Random, met: &mut Met, number: u64, routes: &[usize]) -> Vec<String> {
     let mut differences = Vec::new();
-    let call = Call::new(&case.net);
+    let call = Call::new(&case.net, random);
     compare_graph(&call, random.below(3) as isize, 0, REPORT, &mut differences);
     met.meet(if oracle::connected(&case.net.view()) { "connected" } else { "disconnected" }, number);
+    met.meet(classes::of_lists(&case.net.view()), number);
     compare_step(&call, &case.cameras, random.below(2), None, REPORT, &mut differences);
     for &route in routes {
         let surplus = random.below(3);
@@ -587,7 +682,8 @@ fn compare(case: &Case, random: &mut Random, met: &mut Met, number: u64, routes:
         if let (Ok(placement), true) = (answer, route == case.route) {
             // the points that were placed take the place of the old ones
             let net = Network { points: placement.points, ..case.net.clone() };
-            if let Some((number_, _)) = compare_step(&Call::new(&net), &placement.cameras, random.below(2), None, REPORT, &mut differences) {
+            let call = Call::new(&net, random);
+            if let Some((number_, _)) = compare_step(&call, &placement.cameras, random.below(2), None, REPORT, &mut differences) {
                 met.meet(format!("dots and scales of a placement refused {number_}"), number);
             }
         }
@@ -635,7 +731,7 @@ fn main() {
             tell(case.kind, number, differences);
         }
     }
-    let whole = (flag("--brief") || met.report()) & classes::no_tens();
+    let whole = (flag("--brief") || met.report(&wanted())) & classes::no_tens();
     println!("{networks} networks compared, seed {seed}, from case {from}: {disagreements} disagreements");
     if disagreements > 0 || !whole {
         std::process::exit(1);

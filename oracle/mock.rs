@@ -1,4 +1,4 @@
-//! A stand-in for the port's C functions, by which the comparison is tested: document 01's refusals, then the kernel `subject`
+//! A stand-in for the port's C functions, by which the comparison is tested: the refusals and marks of rules.rs, then the kernel `subject`
 //! (the oracle itself, or a changed copy of it).
 
 use rules::Refusal;
@@ -13,6 +13,13 @@ fn refuse(report: &mut [usize], length: usize, (number, place): Refusal) -> usiz
         *first = place;
     }
     number
+}
+
+/// The marks, once 6 has been tested.
+fn clear(marks: &mut [usize], refusal: Option<Refusal>) {
+    if rules::lists_tested(refusal) {
+        marks.fill(0);
+    }
 }
 
 macro_rules! shared {
@@ -37,17 +44,19 @@ pub unsafe extern "C" fn vobzeile_solve(
     n: usize, m: usize, b: usize, e: usize,
     ends: *const usize, ends_len: usize, rays: *const f64, rays_len: usize, weights: *const f64, weights_len: usize,
     scales: *const f64, scales_len: usize, points: *const f64, points_len: usize, offsets: *const usize, offsets_len: usize,
-    rows: *const usize, rows_len: usize,
+    rows: *const usize, rows_len: usize, marks: *mut usize, marks_len: usize,
     route: usize, limit: usize,
     work: *mut f64, work_len: usize, cameras: *mut f64, cameras_len: usize, placed: *mut f64, placed_len: usize,
     report: *mut usize, report_len: usize,
 ) -> usize {
     shared!(ends ends_len, rays rays_len, weights weights_len, scales scales_len, points points_len, offsets offsets_len, rows rows_len);
-    lent!(work work_len, cameras cameras_len, placed placed_len, report report_len);
+    lent!(marks marks_len, work work_len, cameras cameras_len, placed placed_len, report report_len);
     let (net, subject) = network!(n, m, b, e, ends, rays, weights, scales, points, offsets, rows);
     let needed = || rules::work_length(n, m, b, e, route, limit);
-    let fit = || work.len() >= needed() && cameras.len() == 3 * n && placed.len() == 3 * m && report_len == 4;
-    if let Some(refusal) = rules::solve(&net, route, limit, fit) {
+    let fit = || marks.len() == b && work.len() >= needed() && cameras.len() == 3 * n && placed.len() == 3 * m && report_len == 4;
+    let refusal = rules::solve(&net, route, limit, fit);
+    clear(marks, refusal);
+    if let Some(refusal) = refusal {
         return refuse(report, 4, refusal);
     }
     work[..needed()].fill(0.0);
@@ -69,17 +78,19 @@ macro_rules! step {
             n: usize, m: usize, b: usize, e: usize,
             ends: *const usize, ends_len: usize, rays: *const f64, rays_len: usize, weights: *const f64, weights_len: usize,
             scales: *const f64, scales_len: usize, points: *const f64, points_len: usize, offsets: *const usize, offsets_len: usize,
-            rows: *const usize, rows_len: usize,
+            rows: *const usize, rows_len: usize, marks: *mut usize, marks_len: usize,
             current: *const f64, current_len: usize, trial: *const f64, trial_len: usize, mark: usize,
             out: *mut f64, out_len: usize, report: *mut usize, report_len: usize,
         ) -> usize {
             shared!(ends ends_len, rays rays_len, weights weights_len, scales scales_len, points points_len, offsets offsets_len, rows rows_len);
             shared!(current current_len, trial trial_len);
-            lent!(out out_len, report report_len);
+            lent!(marks marks_len, out out_len, report report_len);
             let (net, subject) = network!(n, m, b, e, ends, rays, weights, scales, points, offsets, rows);
             let marked = if mark == 1 { trial } else { current };
-            let fit = || current.len() == 3 * n && trial.len() == 3 * n && out.len() == b + e && report_len == 1;
-            if let Some(refusal) = rules::step(&net, marked, fit) {
+            let fit = || marks.len() == b && current.len() == 3 * n && trial.len() == 3 * n && out.len() == b + e && report_len == 1;
+            let refusal = rules::step(&net, marked, fit);
+            clear(marks, refusal);
+            if let Some(refusal) = refusal {
                 return refuse(report, 1, refusal);
             }
             out.copy_from_slice(&$of(&subject, marked));

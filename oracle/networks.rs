@@ -35,6 +35,14 @@ impl Network {
             rows: &self.rows,
         }
     }
+
+    /// The same network, each point's list in an order drawn at random.
+    pub fn shuffled(mut self, random: &mut Random) -> Self {
+        for ends in self.offsets.windows(2) {
+            random.shuffle(&mut self.rows[ends[0]..ends[1]]);
+        }
+        self
+    }
 }
 
 /// A network with the route and dense limit to solve it by, and camera positions to form dots and scales from.
@@ -104,6 +112,12 @@ impl Random {
     pub fn vector(&mut self, size: f64) -> [f64; 3] {
         [self.within(-size, size), self.within(-size, size), self.within(-size, size)]
     }
+
+    pub fn shuffle<T>(&mut self, items: &mut [T]) {
+        for index in (1..items.len()).rev() {
+            items.swap(index, self.below(index + 1));
+        }
+    }
 }
 
 /// Rows before they are laid out.
@@ -116,7 +130,7 @@ pub struct Row {
     pub scale: f64,
 }
 
-/// Lays out bearings, directions and old points, and lists each point's bearings.
+/// Lays out bearings, directions and old points, and lists each point's bearings, ascending.
 pub fn lay_out(n: usize, bearings: &[Row], directions: &[Row], points: &[[f64; 3]]) -> Network {
     let rows: Vec<Row> = bearings.iter().chain(directions).copied().collect();
     let (m, b) = (points.len(), bearings.len());
@@ -332,9 +346,7 @@ impl<'r> Maker<'r> {
                 }
             }
             if shuffled {
-                for index in (1..rows.len()).rev() {
-                    rows.swap(index, self.random.below(index + 1));
-                }
+                self.random.shuffle(rows);
             }
         }
         let old: Vec<[f64; 3]> = (0..self.points.len())
@@ -834,18 +846,26 @@ pub fn specials() -> Vec<Case> {
 /// Drawn cases that are rare: accepted at the most rounds.
 const RARE: [(u64, u64); 1] = [(1, 28198)];
 
-/// Case `number` of a seed: first the special ones, then drawn ones.
+/// Point lists are shuffled by random streams of their own: this with the number of a case, or with that of a full-size network.
+const LISTS: u64 = 1 << 43;
+
+/// Case `number` of a seed: first the special ones, then drawn ones, half of them with shuffled point lists.
 pub fn generate(seed: u64, number: u64) -> Case {
     if number < 64 {
         if let Some(case) = specials().get(number as usize) {
             return case.clone();
         }
     }
-    drawn(seed, number)
+    let mut case = drawn(seed, number);
+    let random = &mut Random::new(seed, LISTS | number);
+    if random.chance(50) {
+        case.net = case.net.shuffled(random);
+    }
+    case
 }
 
-/// A case drawn from a seed and a number.
-fn drawn(seed: u64, number: u64) -> Case {
+/// A case drawn from a seed and a number, its point lists ascending.
+pub fn drawn(seed: u64, number: u64) -> Case {
     let r = &mut Random::new(seed, number);
     let (kind, net) = match r.below(100) {
         0..14 => ("block", block(r)),
@@ -899,13 +919,28 @@ pub fn block_of(seed: u64, n: usize, m: usize, e: usize) -> Network {
 }
 
 /// Number of kinds of full-size cases.
-pub const FULL_KINDS: usize = 8;
+pub const FULL_KINDS: usize = 11;
 
-/// A case at the limits: n=4096, m=65,536, B=262,144; E=0 or 65,536; a block, a long strip, directions only, or a star. In the blocks and
-/// at the end of the strip some points have a camera twice, and pairs of cameras have several directions (the strip's each 16), but
-/// in kind 6. In the star every row joins a camera to camera 0, the anchor, so that the system is diagonal and one round solves it; its
-/// points are seen by two cameras each.
+/// A case at the limits. Kinds 5 and 8 to 10 have shuffled point lists, as their names say; the last three are otherwise the networks of
+/// kinds 0, 2 and 7.
 pub fn full(seed: u64, kind: usize) -> Case {
+    let (name, like) = match kind {
+        5 => ("full anything, lists shuffled", 5),
+        8 => ("full block, E=0, lists shuffled", 0),
+        9 => ("full strip, E=0, lists shuffled", 2),
+        10 => ("full star, E=65536, lists shuffled", 7),
+        _ => return full_ascending(seed, kind),
+    };
+    let case = full_ascending(seed, like);
+    let net = case.net.shuffled(&mut Random::new(seed, LISTS | 1 << 40 | kind as u64));
+    Case { kind: name, net, ..case }
+}
+
+/// Kinds 0 to 7, point lists ascending: n=4096, m=65,536, B=262,144; E=0 or 65,536; a block, a long strip, directions only, or a star.
+/// In the blocks and at the end of the strip some points have a camera twice, and pairs of cameras have several directions (the strip's
+/// each 16), but in kind 6. In the star every row joins a camera to camera 0, the anchor, so that the system is diagonal and one round
+/// solves it; its points are seen by two cameras each.
+fn full_ascending(seed: u64, kind: usize) -> Case {
     let r = &mut Random::new(seed, 1 << 40 | kind as u64);
     let n = 4096;
     let (name, long, m, e) = [

@@ -13,7 +13,7 @@
 //!   scales ..                  B+E
 //!   points ..                  3m, the old points
 //!   offsets ..                 m+1
-//!   rows ..                    B
+//!   rows ..                    B, each point's list in any order
 //!   positions ..               3n, cameras to form dots and scales from, together with the old points
 //!   connected YES              1 or 0
 //!   parts COUNT ..             the number of parts, then n labels
@@ -115,6 +115,8 @@ fn main() {
         }
     }
     println!("# Answers of the oracle, seed {seed}: {} cases. Written by oracle/replay.rs, which describes the format.", sample.len());
+    let unsorted = sample.iter().filter(|(_, case)| classes::of_lists(&case.net.view()) == classes::LISTS[1]).count();
+    println!("# {unsorted} of them have point lists that do not ascend.");
     println!("# Class, and how many cases of it:");
     for (class, count) in &kept {
         println!("#   {count} {class}");

@@ -1,7 +1,7 @@
 //! Refusals 1 to 8 and the work length, written from documents 01 and 02: what the Rust kernel has no part in.
 //!
 //! A refusal is its number and place. Lengths are tested by equality, except the work buffer and the node numbers, which may
-//! be longer than needed. A report's length is one of them: `fit` has it too.
+//! be longer than needed. A report's length and that of the marks are among them: `fit` has them too.
 
 use oracle::Network;
 
@@ -31,26 +31,27 @@ fn ends(net: &Network) -> Option<Refusal> {
     None
 }
 
-/// Every bearing once, under its own point, ascending within a point.
+/// Every bearing once, under its own point, in any order.
 fn lists_hold(net: &Network) -> bool {
     let offsets = net.offsets;
     if offsets[0] != 0 || offsets[net.m] != net.b || offsets.windows(2).any(|w| w[1] < w[0]) {
         return false;
     }
-    let mut named = vec![false; net.b];
+    let mut times = vec![0; net.b];
     for point in 0..net.m {
-        let list = &net.rows[offsets[point]..offsets[point + 1]];
-        if list.windows(2).any(|w| w[1] <= w[0]) {
-            return false;
-        }
-        for &row in list {
-            if row >= net.b || net.ends[2 * row + 1] != point || named[row] {
+        for &row in &net.rows[offsets[point]..offsets[point + 1]] {
+            if row >= net.b || net.ends[2 * row + 1] != point {
                 return false;
             }
-            named[row] = true;
+            times[row] += 1;
         }
     }
-    named.iter().all(|name| *name)
+    times.iter().all(|times| *times == 1)
+}
+
+/// Whether 6 has been tested, given the refusal by 1 to 8 of a solve, of dots or of scales. If so, the marks end all zero, else they are untouched.
+pub fn lists_tested(refusal: Option<Refusal>) -> bool {
+    refusal.is_none_or(|(number, _)| number >= 6)
 }
 
 fn bad_weight(weight: f64) -> bool {
