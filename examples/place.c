@@ -77,6 +77,7 @@ int main(int argc, char **argv) {
     double *rays = room(3 * r, sizeof *rays), *weights = room(r, sizeof *weights), *scales = room(r, sizeof *scales);
     double *points = room(3 * m, sizeof *points), *cameras = room(3 * n, sizeof *cameras), *placed = room(3 * m, sizeof *placed);
     check("read", vobzeile_read(bytes, length, ends, 2 * r, rays, 3 * r, weights, r, scales, r, points, 3 * m, report, 4), report);
+    /* The solve would take the bearings of a point in any order; these are ascending. */
     check("list_points", vobzeile_list_points(m, b, ends, 2 * r, offsets, m + 1, rows, b, report, 1), report);
 
     /* Cameras of different parts are placed, but their distance means nothing. */
@@ -89,9 +90,10 @@ int main(int argc, char **argv) {
     check("work_length", vobzeile_work_length(n, m, b, e, route, limit, report, 1), report);
     const size_t work_len = report[0];
     double *work = room(work_len, sizeof *work);
+    size_t *marks = room(b, sizeof *marks);
     check("solve",
-        vobzeile_solve(n, m, b, e, ends, 2 * r, rays, 3 * r, weights, r, scales, r, points, 3 * m, offsets, m + 1, rows, b, route, limit,
-            work, work_len, cameras, 3 * n, placed, 3 * m, report, 4),
+        vobzeile_solve(n, m, b, e, ends, 2 * r, rays, 3 * r, weights, r, scales, r, points, 3 * m, offsets, m + 1, rows, b, marks, b,
+            route, limit, work, work_len, cameras, 3 * n, placed, 3 * m, report, 4),
         report);
 
     printf("cameras %zu points %zu bearings %zu directions %zu parts %zu\n", n, m, b, e, parts);
@@ -100,6 +102,6 @@ int main(int argc, char **argv) {
     print('p', m, placed);
 
     free(bytes), free(ends), free(offsets), free(rows), free(rays), free(weights), free(scales), free(points), free(cameras), free(placed);
-    free(nodes), free(labels), free(work);
+    free(nodes), free(labels), free(work), free(marks);
     return ferror(stdout) || fflush(stdout) ? 2 : 0;
 }

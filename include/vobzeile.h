@@ -20,8 +20,12 @@
  *   weights     b+e    finite, not below 0
  *   scales      b+e    finite, above 0
  *   points      3m     x, y, z
- *   offsets     m+1    the point lists: point p has rows[offsets[p]] to rows[offsets[p+1] - 1], ascending
+ *   offsets     m+1    the point lists: point p has rows[offsets[p]] to rows[offsets[p+1] - 1], in any order
  *   rows         b
+ *   marks        b     written by the calls that test the lists ('Marks' below)
+ *
+ * Offsets go from 0 to b and never fall, and the lists name every bearing once, under its own point. Sums over a point's bearings go in
+ * list order, so that another order may round otherwise.
  *
  * Rays are used as they are given: they are not normalised, and zero ones are not refused. For a ray of unit length the scale is one
  * over the distance that the row is taken to span. With weights w and scales s a solve finds, up to rounding and the residual that
@@ -45,7 +49,7 @@
  *    3  a length differs from its count, or a work buffer is too short     place 0
  *    4  a camera or point number out of range                     row
  *    5  direction with source = target                            row
- *    6  point lists break their rule                              place 0
+ *    6  offsets fall or do not go from 0 to b, or a bearing is missing, named twice or under another point     place 0
  *    7  weight, scale, ray, direction or position outside the domain     row, b+e+p for point p, b+e+m+c for camera c
  *    8  route not 1, 2 or 3, or dense limit over 256              place 0
  *    9  iterative: diagonal + 1e-6 not finite                     camera
@@ -64,7 +68,10 @@
  * There is no 10: where a camera's diagonal + 1e-6 is finite it is above 0, whatever network is sent.
  *
  * 1 to 8 and 20 to 22 are tested in number order (an image's 20 to 22 before the rest), each at its lowest place. 9 to 17 leave the
- * outputs untouched, the others every buffer but the report's first number.
+ * outputs untouched, the others every buffer but the report's first number and, where 6 has been tested, the marks.
+ *
+ * Marks. vobzeile_solve, vobzeile_dots and vobzeile_scales test 6, and are lent `marks` for it: just b numbers, of any content. Where 1 to
+ * 5 refuse, they are left; otherwise all b are 0 after the call, whether it answers or is refused (by 6 to 17).
  */
 #ifndef VOBZEILE_H
 #define VOBZEILE_H
@@ -84,9 +91,9 @@ extern "C" {
 double vobzeile_sqrt(double x);
 
 /*
- * Builds the point lists from the ends of b bearings; `ends` has 2b numbers or more, so directions may follow. Fills `offsets` (m+1) and
- * `rows` (b); report[0] is 0 after an answer. Refuses by 3 and 4 (a bearing's point number is not below m), and then leaves both. Counts
- * are not held to their limits.
+ * Builds point lists from the ends of b bearings, ascending under each point; `ends` has 2b numbers or more, so directions may follow.
+ * Fills `offsets` (m+1) and `rows` (b); report[0] is 0 after an answer. Refuses by 3 and 4 (a bearing's point number is not below m), and
+ * then leaves both. Counts are not held to their limits.
  */
 size_t vobzeile_list_points(
     size_t m, size_t b,
@@ -130,7 +137,8 @@ size_t vobzeile_work_length(
 /*
  * The dot of each row with its baseline, into `out` (b+e): a bearing's ray with point - camera, a direction with target - source. The
  * cameras are those of `trial` where `mark` is not 0, else of `current`: 3n doubles each (both may be the same buffer), of which only
- * the marked ones are read. `points` are the placed ones. Refuses by 1 to 7; report[0] is 0 after an answer.
+ * those are read. `mark` is one number and has nothing to do with `marks`. `points` are the placed ones. Refuses by 1 to 7; report[0] is
+ * 0 after an answer.
  */
 size_t vobzeile_dots(
     size_t n, size_t m, size_t b, size_t e,
@@ -141,6 +149,7 @@ size_t vobzeile_dots(
     const double *points, size_t points_len,
     const size_t *offsets, size_t offsets_len,
     const size_t *rows, size_t rows_len,
+    size_t *marks, size_t marks_len,
     const double *current, size_t current_len,
     const double *trial, size_t trial_len,
     size_t mark,
@@ -160,6 +169,7 @@ size_t vobzeile_scales(
     const double *points, size_t points_len,
     const size_t *offsets, size_t offsets_len,
     const size_t *rows, size_t rows_len,
+    size_t *marks, size_t marks_len,
     const double *current, size_t current_len,
     const double *trial, size_t trial_len,
     size_t mark,
@@ -184,6 +194,7 @@ size_t vobzeile_solve(
     const double *points, size_t points_len,
     const size_t *offsets, size_t offsets_len,
     const size_t *rows, size_t rows_len,
+    size_t *marks, size_t marks_len,
     size_t route, size_t limit,
     double *work, size_t work_len,
     double *cameras, size_t cameras_len,
@@ -202,8 +213,8 @@ size_t vobzeile_counts(
     size_t *report, size_t report_len);
 
 /*
- * Reads a network image into buffers of the lengths that its counts ask for; the point lists are vobzeile_list_points'. Report as of
- * vobzeile_counts. Refuses by 20 to 22, then 1 to 5 and 7, all before the first number is stored.
+ * Reads a network image into buffers of the lengths that its counts ask for. It has no point lists: vobzeile_list_points builds some.
+ * Report as of vobzeile_counts. Refuses by 20 to 22, then 1 to 5 and 7, all before the first number is stored.
  */
 size_t vobzeile_read(
     const uint8_t *bytes, size_t bytes_len,
