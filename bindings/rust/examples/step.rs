@@ -184,10 +184,10 @@ fn main() -> Result<(), Error> {
             &mut points,
         )?;
         network.set_points(&points)?;
-        dots_into(&network, &cameras, &mut numbers)?;
+        dots_into(&network, &mut workspace, &cameras, &mut numbers)?;
         let depth = normalize_gauge(&network, &base_weights, &numbers, &mut cameras, &mut points);
         network.set_points(&points)?;
-        scales_into(&network, &cameras, &mut numbers)?;
+        scales_into(&network, &mut workspace, &cameras, &mut numbers)?;
         network.set_scales(&numbers)?;
         let way = displacement(&current, &cameras);
         current.copy_from_slice(&cameras);

@@ -77,7 +77,7 @@ pub enum Error {
         /// Its running number.
         place: usize,
     },
-    /// 6: the point lists break their rule.
+    /// 6: the offsets of the point lists fall or do not go from 0 to B, or a bearing is missing, named twice or under another point.
     PointLists,
     /// 7: a weight, scale, ray, direction or position is outside the domain.
     OutsideDomain {
@@ -312,9 +312,8 @@ impl fmt::Display for Error {
             Self::SelfLoop { direction, .. } => {
                 write!(formatter, "direction {direction}: source = target")
             }
-            Self::PointLists => formatter.write_str(
-                "the point lists do not name every bearing once, under its own point, ascending",
-            ),
+            Self::PointLists => formatter
+                .write_str("the point lists do not name every bearing once, under its own point"),
             Self::OutsideDomain { row, .. } => {
                 let numbers = match row {
                     Row::Bearing(_) => "weight, scale or ray",
@@ -425,6 +424,11 @@ mod tests {
             (4, 17, "bearing 17: camera or point out of range"),
             (4, 20, "direction 0: source or target out of range"),
             (5, 23, "direction 3: source = target"),
+            (
+                6,
+                0,
+                "the point lists do not name every bearing once, under its own point",
+            ),
             (7, 17, "bearing 17: weight, scale or ray outside the domain"),
             (
                 7,

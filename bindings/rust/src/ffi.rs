@@ -78,6 +78,8 @@ unsafe extern "C" {
         offsets_len: usize,
         rows: *const usize,
         rows_len: usize,
+        marks: *mut usize,
+        marks_len: usize,
         current: *const f64,
         current_len: usize,
         trial: *const f64,
@@ -107,6 +109,8 @@ unsafe extern "C" {
         offsets_len: usize,
         rows: *const usize,
         rows_len: usize,
+        marks: *mut usize,
+        marks_len: usize,
         current: *const f64,
         current_len: usize,
         trial: *const f64,
@@ -136,6 +140,8 @@ unsafe extern "C" {
         offsets_len: usize,
         rows: *const usize,
         rows_len: usize,
+        marks: *mut usize,
+        marks_len: usize,
         route: usize,
         limit: usize,
         work: *mut f64,
@@ -204,7 +210,7 @@ pub(crate) struct Lent<'a> {
     pub(crate) rows: &'a [usize],
 }
 
-/// Two buffers of camera positions, and the mark that says which of them is meant.
+/// Two buffers of camera positions, and the mark that says which of them is meant (it has nothing to do with the marks of 6).
 #[derive(Clone, Copy)]
 pub(crate) struct Marked<'a> {
     pub(crate) current: &'a [f64],
@@ -214,6 +220,7 @@ pub(crate) struct Marked<'a> {
 
 /// What a solve fills.
 pub(crate) struct Solved<'a> {
+    pub(crate) marks: &'a mut [usize],
     pub(crate) work: &'a mut [f64],
     pub(crate) cameras: &'a mut [f64],
     pub(crate) placed: &'a mut [f64],
@@ -328,7 +335,13 @@ pub(crate) fn work_length(
     }
 }
 
-pub(crate) fn dots(lent: &Lent, cameras: Marked, out: &mut [f64], report: &mut [usize]) -> usize {
+pub(crate) fn dots(
+    lent: &Lent,
+    marks: &mut [usize],
+    cameras: Marked,
+    out: &mut [f64],
+    report: &mut [usize],
+) -> usize {
     // SAFETY: each pointer comes with its slice's length; the function stays within them.
     unsafe {
         vobzeile_dots(
@@ -350,6 +363,8 @@ pub(crate) fn dots(lent: &Lent, cameras: Marked, out: &mut [f64], report: &mut [
             lent.offsets.len(),
             lent.rows.as_ptr(),
             lent.rows.len(),
+            marks.as_mut_ptr(),
+            marks.len(),
             cameras.current.as_ptr(),
             cameras.current.len(),
             cameras.trial.as_ptr(),
@@ -363,7 +378,13 @@ pub(crate) fn dots(lent: &Lent, cameras: Marked, out: &mut [f64], report: &mut [
     }
 }
 
-pub(crate) fn scales(lent: &Lent, cameras: Marked, out: &mut [f64], report: &mut [usize]) -> usize {
+pub(crate) fn scales(
+    lent: &Lent,
+    marks: &mut [usize],
+    cameras: Marked,
+    out: &mut [f64],
+    report: &mut [usize],
+) -> usize {
     // SAFETY: each pointer comes with its slice's length; the function stays within them.
     unsafe {
         vobzeile_scales(
@@ -385,6 +406,8 @@ pub(crate) fn scales(lent: &Lent, cameras: Marked, out: &mut [f64], report: &mut
             lent.offsets.len(),
             lent.rows.as_ptr(),
             lent.rows.len(),
+            marks.as_mut_ptr(),
+            marks.len(),
             cameras.current.as_ptr(),
             cameras.current.len(),
             cameras.trial.as_ptr(),
@@ -420,6 +443,8 @@ pub(crate) fn solve(lent: &Lent, route: usize, limit: usize, solved: Solved) -> 
             lent.offsets.len(),
             lent.rows.as_ptr(),
             lent.rows.len(),
+            solved.marks.as_mut_ptr(),
+            solved.marks.len(),
             route,
             limit,
             solved.work.as_mut_ptr(),

@@ -3,6 +3,7 @@
 
 use crate::Counts;
 use crate::ffi::{self, Lent, Marked, Read, Solved};
+use crate::step::Call;
 use std::fmt::Debug;
 
 trait Held: Copy + Debug {
@@ -129,6 +130,7 @@ struct Case {
     points: Vec<f64>,
     offsets: Vec<usize>,
     rows: Vec<usize>,
+    marks: Vec<usize>,
     route: usize,
     limit: usize,
     current: Vec<f64>,
@@ -163,6 +165,7 @@ fn case() -> Case {
         points: vec![0.0, 0.0, 1.0, 2.0, 2.0, 2.0],
         offsets: vec![0, 2, 3],
         rows: vec![0, 2, 1],
+        marks: vec![usize::MAX, 1, 7],
         route: 3,
         limit: 2,
         current: vec![0.0, 0.0, 0.0, 1.0, 0.0, 0.0, 1.0, 1.0, 0.0],
@@ -239,13 +242,26 @@ impl Buffers {
     }
 }
 
+/// The marks are left where 1 to 5 refuse, and else all 0.
+#[track_caller]
+fn cleared(marks: &Guarded<usize>, code: usize, case: &Case) {
+    if (1..=5).contains(&code) {
+        marks.untouched();
+    } else {
+        assert_eq!(marks.get().len(), case.counts.bearings);
+        marks.holds(&vec![0; case.counts.bearings]);
+    }
+}
+
 fn solve(case: &Case) -> Outcome {
     let buffers = Buffers::of(case);
+    let mut marks = Guarded::holding(&case.marks);
     let mut work = Guarded::<f64>::blank(case.work);
     let mut cameras = Guarded::<f64>::blank(case.cameras);
     let mut placed = Guarded::<f64>::blank(case.placed);
     let mut report = Guarded::<usize>::blank(case.solve_report);
     let solved = Solved {
+        marks: marks.get_mut(),
         work: work.get_mut(),
         cameras: cameras.get_mut(),
         placed: placed.get_mut(),
@@ -253,6 +269,7 @@ fn solve(case: &Case) -> Outcome {
     };
     let code = ffi::solve(&buffers.lent(), case.route, case.limit, solved);
     buffers.untouched();
+    cleared(&marks, code, case);
     if (1..=8).contains(&code) {
         work.untouched();
     } else {
@@ -276,8 +293,9 @@ fn solve(case: &Case) -> Outcome {
 
 /// Dots and scales, which refuse alike.
 fn step(case: &Case) -> Outcome {
-    let run = |call: fn(&Lent, Marked, &mut [f64], &mut [usize]) -> usize| {
+    let run = |call: Call| {
         let buffers = Buffers::of(case);
+        let mut marks = Guarded::holding(&case.marks);
         let current = Guarded::holding(&case.current);
         let trial = Guarded::holding(&case.trial);
         let mut out = Guarded::<f64>::blank(case.out);
@@ -287,8 +305,15 @@ fn step(case: &Case) -> Outcome {
             trial: trial.get(),
             mark: case.mark,
         };
-        let code = call(&buffers.lent(), marked, out.get_mut(), report.get_mut());
+        let code = call(
+            &buffers.lent(),
+            marks.get_mut(),
+            marked,
+            out.get_mut(),
+            report.get_mut(),
+        );
         buffers.untouched();
+        cleared(&marks, code, case);
         current.untouched();
         trial.untouched();
         let place = report.told(code, 1);
@@ -468,6 +493,15 @@ fn lengths_and_counts() {
     refused(|c| c.offsets.clear(), three, three, fine, fine);
     refused(|c| shorten(&mut c.rows), three, three, fine, fine);
     refused(|c| c.rows.push(0), three, three, fine, fine);
+    refused(|c| shorten(&mut c.marks), three, three, fine, fine);
+    refused(|c| c.marks.push(0), three, three, fine, fine);
+    refused(|c| c.marks.clear(), three, three, fine, fine);
+    // 4 comes later
+    let both = |c: &mut Case| {
+        c.marks.clear();
+        c.ends[2] = 3;
+    };
+    refused(both, three, three, (4, 1), (4, 1));
 }
 
 #[test]
@@ -594,8 +628,9 @@ fn source_and_target() {
 #[test]
 fn point_lists() {
     let lists = |spoil: fn(&mut Case)| refused(spoil, (6, 0), (6, 0), ANSWERED, ANSWERED);
-    lists(|c| c.rows = vec![2, 0, 1]);
     lists(|c| c.rows = vec![0, 0, 1]);
+    lists(|c| c.rows = vec![2, 2, 1]);
+    lists(|c| c.rows = vec![0, 2, 2]);
     lists(|c| c.rows = vec![0, 1, 2]);
     lists(|c| c.rows[2] = usize::MAX);
     lists(|c| c.rows[0] = 3);
@@ -605,6 +640,55 @@ fn point_lists() {
     lists(|c| c.offsets = vec![0, 4, 3]);
     lists(|c| c.offsets = vec![0, usize::MAX, 3]);
     lists(|c| c.offsets[2] = usize::MAX);
+    // any order under a point
+    all_tell(|c| c.rows = vec![2, 0, 1], ANSWERED);
+    // 4 and 5 come first, and leave the marks
+    for (end, number, outcome) in [(2, 3, (4, 1)), (6, 1, (5, 3))] {
+        all_tell(
+            |c| {
+                c.rows = vec![0, 0, 1];
+                c.ends[end] = number;
+            },
+            outcome,
+        );
+    }
+}
+
+/// Whatever the marks hold before, every call answers or refuses as ever.
+#[test]
+fn marks_of_any_content() {
+    for first in [0, 1, 2, usize::MAX] {
+        for second in [0, 1, 2, usize::MAX] {
+            let marks = vec![first, second, first];
+            all_tell(|c| c.marks = marks.clone(), ANSWERED);
+            refused(
+                |c| {
+                    c.marks = marks.clone();
+                    c.rows = vec![0, 0, 1];
+                },
+                (6, 0),
+                (6, 0),
+                ANSWERED,
+                ANSWERED,
+            );
+        }
+    }
+    // without bearings there are none
+    let mut directions = case();
+    directions.counts.bearings = 0;
+    directions.ends.drain(..6);
+    directions.rays.drain(..9);
+    directions.weights.drain(..3);
+    directions.scales.drain(..3);
+    directions.offsets = vec![0; 3];
+    directions.rows.clear();
+    directions.out = 2;
+    assert_eq!((solve(&directions), step(&directions)), ((3, 0), (3, 0)));
+    directions.marks.clear();
+    assert_eq!(
+        (solve(&directions), step(&directions)),
+        (ANSWERED, ANSWERED)
+    );
 }
 
 #[test]
@@ -650,7 +734,7 @@ fn outside_the_domain() {
     // 6 comes first
     let both = |c: &mut Case| {
         c.weights[0] = f64::NAN;
-        c.rows = vec![2, 0, 1];
+        c.rows = vec![2, 2, 1];
     };
     refused(both, (6, 0), (6, 0), (7, 0), (7, 0));
 }

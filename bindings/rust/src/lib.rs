@@ -23,14 +23,15 @@
 //!     }
 //! }
 //! let mut network = builder.build()?;
-//! let placement = solve(&network, &mut Workspace::new(), Route::IterativeThenDense, 48)?;
+//! let mut workspace = Workspace::new();
+//! let placement = solve(&network, &mut workspace, Route::IterativeThenDense, 48)?;
 //! assert_eq!((placement.anchor, placement.cameras[0]), (0, [0.0; 3]));
 //! assert!((placement.cameras[1][0] - 2.0).abs() < 1e-3);
 //! assert!((placement.points[1][1] - 3.0).abs() < 1e-3);
 //!
 //! // the next step's scales
 //! network.set_points(&placement.points)?;
-//! let renewed = scales(&network, &placement.cameras)?;
+//! let renewed = scales(&network, &mut workspace, &placement.cameras)?;
 //! network.set_scales(&renewed)?;
 //! # Ok::<(), vobzeile::Error>(())
 //! ```

@@ -57,8 +57,9 @@ pub struct Direction {
 /// Rows and points with their point lists, owned or borrowed.
 ///
 /// Rows are numbered bearings first, then directions; duplicate rows are added up. Rays are used as they are given: they are not
-/// normalised, and zero ones are not refused. A network was tested when it was made (refusals 1 to 5 and 7). Weights, scales and points
-/// may be set anew afterwards: each call tests what it is lent. Threads may share a network that none of them changes.
+/// normalised, and zero ones are not refused. The point lists are ascending unless others are set. A network was tested when it was made
+/// (refusals 1 to 5 and 7). Weights, scales, points and point lists may be set anew afterwards: each call tests what it is lent. Threads
+/// may share a network that none of them changes.
 #[derive(Clone, Debug, PartialEq)]
 pub struct Network<'a> {
     cameras: usize,
@@ -124,7 +125,7 @@ impl<'a> Network<'a> {
         }
     }
 
-    /// With its point lists.
+    /// With its point lists, ascending under each point.
     fn listed(mut self) -> Result<Self, Error> {
         let counts = self.counts();
         self.offsets = vec![0; counts.points + 1];
@@ -212,7 +213,8 @@ impl<'a> Network<'a> {
         })
     }
 
-    /// The bearings of a point, ascending. Panics unless the point is one of the network's.
+    /// The bearings of a point, in the order of its list. Panics unless the point is one of the network's, or where offsets that were set
+    /// fall or go past the rows.
     pub fn point_bearings(&self, point: usize) -> &[usize] {
         &self.rows[self.offsets[point]..self.offsets[point + 1]]
     }
@@ -233,6 +235,33 @@ impl<'a> Network<'a> {
         set("points", &mut self.points, points)
     }
 
+    /// Sets the point lists, as a matcher found them: that of point p is `rows[offsets[p]..offsets[p + 1]]`, in any order. Sums over a point's
+    /// bearings go in list order. Refused by 3 unless there are m + 1 offsets and B rows. That the offsets go from 0 to B and never fall, and
+    /// that every bearing is named once, under its own point, is tested by the calls that use the lists (6): solve, dots and scales.
+    ///
+    /// ```
+    /// use vobzeile::{Bearing, Network, Route, Workspace, solve};
+    ///
+    /// let mut builder = Network::builder(3);
+    /// builder.push_point([0.0; 3]);
+    /// for camera in 0..3 {
+    ///     let ray = [0.6, 0.0, -0.8];
+    ///     builder.push_bearing(Bearing { camera, point: 0, ray, weight: 1.0, scale: 0.1 });
+    /// }
+    /// let mut network = builder.build()?;
+    /// assert_eq!(network.point_bearings(0), [0, 1, 2]);
+    /// network.set_lists(&[0, 3], &[2, 0, 1])?;
+    /// solve(&network, &mut Workspace::new(), Route::Dense, 48)?;
+    /// # Ok::<(), vobzeile::Error>(())
+    /// ```
+    pub fn set_lists(&mut self, offsets: &[usize], rows: &[usize]) -> Result<(), Error> {
+        check_length("offsets", self.offsets.len(), offsets.len())?;
+        check_length("rows", self.rows.len(), rows.len())?;
+        self.offsets.copy_from_slice(offsets);
+        self.rows.copy_from_slice(rows);
+        Ok(())
+    }
+
     /// The same network, owning all it holds.
     pub fn into_owned(self) -> Network<'static> {
         Network {
@@ -249,14 +278,20 @@ impl<'a> Network<'a> {
     }
 }
 
-fn set<T: Copy>(slice: &'static str, held: &mut Cow<'_, [T]>, numbers: &[T]) -> Result<(), Error> {
-    if held.len() != numbers.len() {
-        return Err(Error::Length {
-            slice,
-            expected: held.len(),
-            actual: numbers.len(),
-        });
+/// Refused by 3 where the lengths differ.
+fn check_length(slice: &'static str, expected: usize, actual: usize) -> Result<(), Error> {
+    if expected == actual {
+        return Ok(());
     }
+    Err(Error::Length {
+        slice,
+        expected,
+        actual,
+    })
+}
+
+fn set<T: Copy>(slice: &'static str, held: &mut Cow<'_, [T]>, numbers: &[T]) -> Result<(), Error> {
+    check_length(slice, held.len(), numbers.len())?;
     held.to_mut().copy_from_slice(numbers);
     Ok(())
 }

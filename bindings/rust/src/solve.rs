@@ -52,11 +52,12 @@ pub struct Placement {
     pub few: usize,
 }
 
-/// Buffers that solves and graph calls work in. They grow as needed and are kept, so that calls after the first on networks of one size
-/// allocate nothing. What they hold makes no difference to a call.
+/// Buffers that solves, dots, scales and graph calls work in. They grow as needed and are kept, so that calls after the first on networks
+/// of one size allocate nothing. What they hold makes no difference to a call.
 #[derive(Clone, Debug, Default)]
 pub struct Workspace {
     work: Vec<f64>,
+    marks: Vec<usize>,
     nodes: Vec<usize>,
     labels: Vec<usize>,
 }
@@ -68,13 +69,18 @@ fn grown<T: Copy>(buffer: &mut Vec<T>, length: usize, with: T) -> &mut [T] {
     buffer
 }
 
+/// The first of them, just so many.
+fn exactly<T: Copy>(buffer: &mut Vec<T>, length: usize, with: T) -> &mut [T] {
+    &mut grown(buffer, length, with)[..length]
+}
+
 impl Workspace {
     /// An empty workspace.
     pub fn new() -> Self {
         Self::default()
     }
 
-    /// A workspace that has room for this network's solves by this route and for its graph calls.
+    /// A workspace that has room for this network's solves by this route, its dots and scales and its graph calls.
     pub fn for_network(
         network: &Network<'_>,
         route: Route,
@@ -83,20 +89,26 @@ impl Workspace {
         let mut workspace = Self::new();
         let counts = network.counts();
         let length = work_length(counts, route, dense_limit)?;
-        workspace.work(length);
+        workspace.work(counts, length);
         workspace.graph(counts);
         Ok(workspace)
     }
 
-    fn work(&mut self, length: usize) -> &mut [f64] {
-        grown(&mut self.work, length, 0.0)
+    /// Marks of just B bearings, by which the point lists are tested.
+    pub(crate) fn marks(&mut self, counts: Counts) -> &mut [usize] {
+        exactly(&mut self.marks, counts.bearings, 0)
+    }
+
+    /// Marks, and at least so many doubles.
+    fn work(&mut self, counts: Counts, length: usize) -> (&mut [usize], &mut [f64]) {
+        let marks = exactly(&mut self.marks, counts.bearings, 0);
+        (marks, grown(&mut self.work, length, 0.0))
     }
 
     /// Node numbers, and labels of just n cameras.
     pub(crate) fn graph(&mut self, counts: Counts) -> (&mut [usize], &mut [usize]) {
         let nodes = grown(&mut self.nodes, counts.cameras + counts.points, 0);
-        let labels = grown(&mut self.labels, counts.cameras, 0);
-        (nodes, &mut labels[..counts.cameras])
+        (nodes, exactly(&mut self.labels, counts.cameras, 0))
     }
 }
 
@@ -121,8 +133,9 @@ pub fn work_length(counts: Counts, route: Route, dense_limit: usize) -> Result<u
 ///
 /// # Errors
 ///
-/// By 7 (a weight, scale or point that was set anew is outside the domain), 8 (`dense_limit` over its limit), 9 to 13 (the iterative
-/// part gave up), 14 ([`Route::Dense`], and n-1 is over the limit), 15 to 17 (the dense part gave up). The network is only read.
+/// By 6 (point lists that were set break their rule), 7 (a weight, scale or point that was set anew is outside the domain), 8
+/// (`dense_limit` over its limit), 9 to 13 (the iterative part gave up), 14 ([`Route::Dense`], and n-1 is over the limit), 15 to 17 (the
+/// dense part gave up). The network is only read.
 pub fn solve(
     network: &Network<'_>,
     workspace: &mut Workspace,
@@ -166,8 +179,10 @@ pub fn solve_into(
     let counts = network.counts();
     let length = work_length(counts, route, dense_limit)?;
     let mut report = [0; 4];
+    let (marks, work) = workspace.work(counts, length);
     let solved = Solved {
-        work: workspace.work(length),
+        marks,
+        work,
         cameras: cameras.as_flattened_mut(),
         placed: points.as_flattened_mut(),
         report: &mut report,

@@ -59,14 +59,17 @@ fn nothing_is_allocated() {
         )
         .unwrap();
         network.set_points(&points).unwrap();
-        dots_into(&network, &cameras, &mut numbers).unwrap();
-        scales_into(&network, &cameras, &mut numbers).unwrap();
+        dots_into(&network, &mut workspace, &cameras, &mut numbers).unwrap();
+        scales_into(&network, &mut workspace, &cameras, &mut numbers).unwrap();
         network.set_scales(&numbers).unwrap();
         assert!(is_connected(&network, &mut workspace).unwrap());
         assert_eq!(parts(&network, &mut workspace).unwrap().count, 1);
         write_image_into(&network, &mut image).unwrap();
         // nor by a refusal
         solve_into(&heavy, &mut workspace, route, 48, &mut cameras, &mut points).unwrap_err();
+        network.set_lists(&[0, 1], &[1]).unwrap();
+        dots_into(&network, &mut workspace, &cameras, &mut numbers).unwrap_err();
+        network.set_lists(&[0, 1], &[0]).unwrap();
     }
     assert_eq!(count(), before);
 }

@@ -85,7 +85,7 @@ fn points_are_not_tested() {
     // but dots and scales of such a point are refused
     let mut network = sight(1e300, 1e10);
     network.set_points(&placement.points).unwrap();
-    let error = scales(&network, &placement.cameras).unwrap_err();
+    let error = scales(&network, &mut Workspace::new(), &placement.cameras).unwrap_err();
     let row = Row::Point(0);
     assert_eq!(error, Error::OutsideDomain { row, place: 1 });
 }
@@ -179,12 +179,12 @@ fn dense_after_iterative() {
 #[test]
 fn scales_at_the_edges() {
     let pair = pair(1.0, 0.75);
-    let scale = |x: f64| scales(&pair, &[[0.0; 3], [x, 0.0, 0.0]]).unwrap();
+    let scale = |x: f64| scales(&pair, &mut Workspace::new(), &[[0.0; 3], [x, 0.0, 0.0]]).unwrap();
     assert_eq!(scale(2.0), [0.5]);
     assert_eq!(scale(-2.0), [1e-5]);
     assert_eq!(scale(2f64.powi(-20)), [0.75]);
     assert_eq!(scale(2f64.powi(-19)), [524288.0]);
-    let dot = |x: f64| dots(&pair, &[[0.0; 3], [x, 0.0, 0.0]]).unwrap();
+    let dot = |x: f64| dots(&pair, &mut Workspace::new(), &[[0.0; 3], [x, 0.0, 0.0]]).unwrap();
     assert_eq!(dot(2.0), [2.0]);
     assert_eq!(dot(-2.0), [-2.0]);
 }
@@ -194,21 +194,23 @@ fn dots_and_scales_of_the_whole_case() {
     let mut network = sight(1.0, 0.5);
     let placement = placed(&network, Route::Iterative, 0).unwrap();
     network.set_points(&placement.points).unwrap();
-    assert_eq!(dots(&network, &placement.cameras).unwrap(), [2.0]);
-    assert_eq!(scales(&network, &placement.cameras).unwrap(), [0.5]);
+    let workspace = &mut Workspace::new();
+    let cameras = &placement.cameras[..];
+    assert_eq!(dots(&network, workspace, cameras).unwrap(), [2.0]);
+    assert_eq!(scales(&network, workspace, cameras).unwrap(), [0.5]);
     // buffers of the caller's: too long, just right
     let mut out = [7.0; 2];
     for call in [dots_into, scales_into] {
-        let error = call(&network, &placement.cameras, &mut out).unwrap_err();
+        let error = call(&network, workspace, cameras, &mut out).unwrap_err();
         assert_eq!((error, out), (length("out", 1, 2), [7.0; 2]));
         assert_eq!(error.to_string(), "out: length 2, expected 1");
-        call(&network, &placement.cameras, &mut out[..1]).unwrap();
+        call(&network, workspace, cameras, &mut out[..1]).unwrap();
         assert_ne!(out[0], 7.0);
         out[0] = 7.0;
-        let error = call(&network, &[], &mut out[..1]).unwrap_err();
+        let error = call(&network, workspace, &[], &mut out[..1]).unwrap_err();
         assert_eq!((error, out), (length("cameras", 1, 0), [7.0; 2]));
         let nowhere = [[0.0, f64::NAN, 0.0]];
-        let error = call(&network, &nowhere, &mut out[..1]).unwrap_err();
+        let error = call(&network, workspace, &nowhere, &mut out[..1]).unwrap_err();
         let row = Row::Camera(0);
         assert_eq!(error, Error::OutsideDomain { row, place: 2 });
         assert_eq!(error.to_string(), "camera 0: position outside the domain");

@@ -83,5 +83,5 @@ fn same_functions() {
     let ffi = of_ffi(include_str!("../src/ffi.rs"));
     assert_eq!(header, ffi);
     assert_eq!(header.len(), 11);
-    assert_eq!(header["vobzeile_solve"].0.len(), 28);
+    assert_eq!(header["vobzeile_solve"].0.len(), 30);
 }

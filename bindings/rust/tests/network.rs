@@ -94,7 +94,8 @@ fn empty_but_for_a_camera() {
         (placement.cameras, placement.points),
         (vec![[0.0; 3]], vec![])
     );
-    assert_eq!(dots(&network, &[[1.0; 3]]).unwrap(), []);
+    let mut workspace = Workspace::new();
+    assert_eq!(dots(&network, &mut workspace, &[[1.0; 3]]).unwrap(), []);
 }
 
 #[track_caller]
@@ -274,8 +275,10 @@ fn set_anew() {
     assert_eq!(wrong.to_string(), "points: length 2, expected 1");
     let before = network.clone();
     let refusal = |network: &Network| {
-        let refused = solve(network, &mut Workspace::new(), Route::Dense, 1).unwrap_err();
-        assert_eq!(dots(network, &[[0.0; 3]; 2]), Err(refused));
+        let mut workspace = Workspace::new();
+        let refused = solve(network, &mut workspace, Route::Dense, 1).unwrap_err();
+        let at = [[0.0; 3]; 2];
+        assert_eq!(dots(network, &mut workspace, &at), Err(refused));
         assert_eq!(vobzeile::write_image(network), Err(refused));
         refused.to_string()
     };
