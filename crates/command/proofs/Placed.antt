@@ -14,7 +14,7 @@ use Rattle.field.proofs.Buffers.{vector-lawful, length-flat, load-flat}
 use Rattle.network.specs.declared.Shape.{Shape}
 use Rattle.network.specs.declared.Verdict.the-variants.{Passed}
 use Rattle.network.specs.Network.{graph, Network, network, rows}
-use Rattle.network.specs.Refusals.{verdict, countTests, lengthTests, listsFit, networkFits, endTests, listTests, networkRowTests, badRoute, routeTests, denseRows}
+use Rattle.network.specs.Refusals.{verdict, countTests, lengthTests, listsFit, networkFits, endTests, listTests, linkTests, networkRowTests, badRoute, routeTests, denseRows}
 use Rattle.network.proofs.Verdicts.{verdict-one, passed-test, both-passed}
 use Rattle.system.specs.Work.{workLength}
 use Rattle.recover.specs.Recover.{pointsOf}
@@ -88,42 +88,44 @@ module _ (s : Shape) (es : List ℕ) (rs ws ss ps : List Float) (C : ContentSoun
   network-fit = ap₂ _&&_ (C .fit) (ap₂ _&&_ (eq-eqb _ _ (offsets-table es (s .bearings) (s .points) .size)) (eq-eqb _ _ (listed-placed rows-held .size)))
 
   rows-passed : verdict (networkRowTests net []) ≡ Passed
-  unfolding net networkRowTests listTests
+  unfolding net networkRowTests linkTests listTests
   rows-passed =
-      both-passed (endTests s es) _ (C .ends)
-      (both-passed _ _ (verdict-one _ ∙ passed-test 6 (ap not (sorted-holds (s .points) (s .bearings) es rows-held))) (C .domain))
+      both-passed (linkTests s es _ _) _
+      (both-passed (endTests s es) _ (C .ends) (verdict-one _ ∙ passed-test 6 (ap not (sorted-holds (s .points) (s .bearings) es rows-held))))
+      (C .domain)
 
   route-passed : verdict (routeTests 3 48) ≡ Passed
   unfolding routeTests badRoute
   route-passed = verdict-one _ ∙ passed-test 8 refl
 
-  module _ (a cs qs : List Float) (B : BuffersSized s a cs qs) where
-    buffers-fit : buffersFit s 3 48 (length a) (length cs) (length qs) ≡ true
+  module _ (ms : List ℕ) (a cs qs : List Float) (B : BuffersSized s ms a cs qs) where
+    buffers-fit : buffersFit s (length ms) 3 48 (length a) (length cs) (length qs) ≡ true
     unfolding buffersFit
     buffers-fit =
         let h = work-enough s (B .small) in
         let w = B .work in
-        ap₂ _&&_ (eq-eqb _ _ (B .cameras)) (ap₂ _&&_ (eq-eqb _ _ (B .points)) (le-leb (workLength s 3 48) (length a) (omega arith)))
+        ap₂ _&&_ (eq-eqb _ _ (B .marks))
+        (ap₂ _&&_ (eq-eqb _ _ (B .cameras)) (ap₂ _&&_ (eq-eqb _ _ (B .points)) (le-leb (workLength s 3 48) (length a) (omega arith))))
 
     -- 1 to 8 refuse nothing
-    submission-passed : submissionVerdict (submission net 3 48 (length a) (length cs) (length qs)) ≡ Passed
+    submission-passed : submissionVerdict (submission net (length ms) 3 48 (length a) (length cs) (length qs)) ≡ Passed
     unfolding submissionTests net
     submission-passed =
         both-passed (countTests s) _ (C .counts)
         (both-passed (lengthTests _) _ (fits (ap₂ _&&_ network-fit buffers-fit))
         (both-passed (networkRowTests net []) _ rows-passed route-passed))
 
-    solve-passed : placement (submission net 3 48 (length a) (length cs) (length qs)) ≡ ending net
+    solve-passed : placement (submission net (length ms) 3 48 (length a) (length cs) (length qs)) ≡ ending net
     unfolding placement net
     solve-passed = rw submission-passed
 
-  pub solved : (offsets listed : List ℕ) (k : ℕ) (answer : Answer) (a a' cs cs' qs qs' : List Float) → Listed s es offsets listed →
-      SolveCall (submission (network s es rs ws ss ps offsets listed) 3 48 (length a) (length cs) (length qs)) answer a a' cs cs' qs qs' → PartCount (graph s es ws) k →
-      BuffersSized s a cs qs → length cs' ≡ length cs → ImageSolved (content s es rs ws ss ps) answer (textOf s k answer cs' qs')
+  pub solved : (offsets listed : List ℕ) (k : ℕ) (answer : Answer) (ms ms' : List ℕ) (a a' cs cs' qs qs' : List Float) → Listed s es offsets listed →
+      SolveCall (submission (network s es rs ws ss ps offsets listed) (length ms) 3 48 (length a) (length cs) (length qs)) answer ms ms' a a' cs cs' qs qs' →
+      PartCount (graph s es ws) k → BuffersSized s ms a cs qs → length cs' ≡ length cs → ImageSolved (content s es rs ws ss ps) answer (textOf s k answer cs' qs')
   unfolding net
-  solved offsets listed k answer a a' cs cs' qs qs' L lent P B kept =
+  solved offsets listed k answer ms ms' a a' cs cs' qs qs' L lent P B kept =
       let call = rw (L .starts, L .rows) at lent in
-      let e = solve-passed a cs qs B in
+      let e = solve-passed ms a cs qs B in
       let answers : answer ≡ answerOf net (ending net) = call .answer ∙ ap (answerOf net) e in
       let f : cs' ≡ camerasAfter (ending net) cs = call .camerasOut ∙ ap (λ t. camerasAfter t cs) e in
       let g : qs' ≡ pointsAfter net (ending net) qs = call .pointsOut ∙ ap (λ t. pointsAfter net t qs) e in

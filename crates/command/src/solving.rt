@@ -25,11 +25,12 @@ fn solve_listed(
     points: &[f64],
     offsets: &[usize],
     listed: &[usize],
+    marks: &mut [usize],
     work: &mut [f64],
     cameras: &mut [f64],
     placed: &mut [f64],
 ) -> Solution
-    requires { ⌜ BuffersSized s (now work) (now cameras) (now placed) ⌝ }
+    requires { ⌜ BuffersSized s (now marks) (now work) (now cameras) (now placed) ⌝ }
     requires { ⌜ ContentSound (content s (now ends) (now rays) (now weights) (now scales) (now points)) ⌝ }
     requires { ⌜ Listed s (now ends) (now offsets) (now listed) ⌝ }
     ensures { λ r. ⌜ SolvedAs
@@ -46,6 +47,7 @@ fn solve_listed(
         points,
         offsets,
         listed,
+        marks,
         3,
         48,
         work,
@@ -65,12 +67,13 @@ fn place(
     points: &[f64],
     offsets: &[usize],
     listed: &[usize],
+    marks: &mut [usize],
     work: &mut [f64],
     cameras: &mut [f64],
     placed: &mut [f64],
     text: &mut [u8; 65536],
 ) -> Printed
-    requires { ⌜ BuffersSized s (now work) (now cameras) (now placed) ⌝ }
+    requires { ⌜ BuffersSized s (now marks) (now work) (now cameras) (now placed) ⌝ }
     requires { ⌜ ContentSound (content s (now ends) (now rays) (now weights) (now scales) (now points)) ⌝ }
     requires { ⌜ Listed s (now ends) (now offsets) (now listed) ⌝ }
     ensures { λ r. ⌜ Prints
@@ -86,6 +89,7 @@ fn place(
         points,
         offsets,
         listed,
+        marks,
         work,
         cameras,
         placed,
@@ -94,7 +98,7 @@ fn place(
     print(s, solved.parts, answer, cameras, placed, text)
 }
 
-// Has the outputs of 64 cameras and 680 points, and a work buffer: 24 * 64 + 4 * 680 + 340 + 48 * 48 + 3 * 48 doubles.
+// Has the marks of 340 bearings, the outputs of 64 cameras and 680 points, and a work buffer: 24 * 64 + 4 * 680 + 340 + 48 * 48 + 3 * 48 doubles.
 pub fn place_listed(
     s: Shape,
     ends: &[usize],
@@ -113,9 +117,11 @@ pub fn place_listed(
         (ImageSolved (content s (now (ends .entry)) (now (rays .entry)) (now (weights .entry)) (now (scales .entry)) (now (points .entry))))
         r (now (text .entry)) (now (text .exit)) ⌝ }
 {
+    let mut marks = [0usize; 340];
     let mut work = [0.0f64; 7044];
     let mut cameras = [0.0f64; 192];
     let mut placed = [0.0f64; 2040];
+    let bearings = s.bearings;
     let camera_numbers = 3 * s.cameras;
     let point_numbers = 3 * s.points;
     place(
@@ -127,6 +133,7 @@ pub fn place_listed(
         points,
         offsets,
         listed,
+        &mut marks[..bearings],
         &mut work,
         &mut cameras[..camera_numbers],
         &mut placed[..point_numbers],

@@ -26,7 +26,7 @@ unfolding computing counts refusals placement routed routedBy submissionTests bu
 solving = tt
 
 -- one camera: the solve's end and the recovered point make the row
-solves : (w s x y z : Float) → placement (submission (single w s) 3 48 29 3 3) ≡ placed 2 0 (origin ∷ []) →
+solves : (w s x y z : Float) → placement (submission (single w s) 1 3 48 29 3 3) ≡ placed 2 0 (origin ∷ []) →
     report (single w s) 2 0 ≡ record { anchor = 0; route = 2; rounds = 0; few = 1 } →
     pointsOf (single w s) (origin ∷ []) ≡ record { x = x; y = y; z = z } ∷ [] → Solves w s x y z
 unfolding flat
@@ -54,4 +54,8 @@ edges = record {
   root-of-two = refl;
   most-rounds = most-rounds;
   over-limit = refl;
+  lists-ascending = refl;
+  lists-descending = refl;
+  row-repeated = refl;
+  row-elsewhere = refl;
 }

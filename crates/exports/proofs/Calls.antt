@@ -81,30 +81,30 @@ length-done route limit h f call p q c = one-done _ f (rw h at call) p q c
 
 -- ---- dots and scales
 
-pub dots-done : {code x room : ℕ} {s s' : Shape} {ends offsets listed report report' : List ℕ}
+pub dots-done : {code x k room : ℕ} {s s' : Shape} {ends offsets listed marks marks' report report' : List ℕ}
     {rays weights scales positions current trial out out' : List Float} {mark : Bool} {answer : Verdict} → s ≡ s' → length report ≡ 1 →
-    DotsFilled (placed (network s ends rays weights scales positions offsets listed) current trial mark room) answer out out' →
+    DotsFilled (placed (network s ends rays weights scales positions offsets listed) k current trial mark room) answer marks marks' out out' →
     x ≡ verdictReport answer → report' ≡ x ∷ [] → code ≡ verdictCode answer →
-    DotsCall (placed (network s' ends rays weights scales positions offsets listed) current trial mark room) code out out' report report'
+    DotsCall (placed (network s' ends rays weights scales positions offsets listed) k current trial mark room) code marks marks' out out' report report'
 dots-done h f call p q c = one-done _ f (rw h at call) p q c
 
-pub scales-done : {code x room : ℕ} {s s' : Shape} {ends offsets listed report report' : List ℕ}
+pub scales-done : {code x k room : ℕ} {s s' : Shape} {ends offsets listed marks marks' report report' : List ℕ}
     {rays weights scales positions current trial out out' : List Float} {mark : Bool} {answer : Verdict} → s ≡ s' → length report ≡ 1 →
-    ScalesFilled (placed (network s ends rays weights scales positions offsets listed) current trial mark room) answer out out' →
+    ScalesFilled (placed (network s ends rays weights scales positions offsets listed) k current trial mark room) answer marks marks' out out' →
     x ≡ verdictReport answer → report' ≡ x ∷ [] → code ≡ verdictCode answer →
-    ScalesCall (placed (network s' ends rays weights scales positions offsets listed) current trial mark room) code out out' report report'
+    ScalesCall (placed (network s' ends rays weights scales positions offsets listed) k current trial mark room) code marks marks' out out' report report'
 scales-done h f call p q c = one-done _ f (rw h at call) p q c
 
 -- ---- the solve
 
-pub solve-done : {route limit code t u v : ℕ} {s s' : Shape} {ends offsets listed report report' : List ℕ}
+pub solve-done : {k route limit code t u v : ℕ} {s s' : Shape} {ends offsets listed marks marks' report report' : List ℕ}
     {rays weights scales positions work work' cameras cameras' points points' : List Float} {answer : Answer} →
     s ≡ s' → length report ≡ 4 →
-    Solved (submission (network s ends rays weights scales positions offsets listed) route limit t u v) answer
-    work work' cameras cameras' points points' →
+    Solved (submission (network s ends rays weights scales positions offsets listed) k route limit t u v) answer
+    marks marks' work work' cameras cameras' points points' →
     report' ≡ answerReport answer report → code ≡ answerCode answer →
-    SolveCall (submission (network s' ends rays weights scales positions offsets listed) route limit t u v) code
-    work work' cameras cameras' points points' report report'
+    SolveCall (submission (network s' ends rays weights scales positions offsets listed) k route limit t u v) code
+    marks marks' work work' cameras cameras' points points' report report'
 solve-done h f call q c = done _ f (rw h at call) q c
 
 -- ---- the writer

@@ -64,20 +64,23 @@ LengthCall s route limit = Reporting 1 (countVerdict s) Unit (λ a. a ≡ length
 
 -- ---- dots and scales
 
-abbrev pub DotsCall : (i : PlacedNetwork) (code : ℕ) (out out' : List Float) (report report' : List ℕ) → Type 0
-DotsCall i code out out' =
-    Reporting 1 (countVerdict (i .net .shape)) (out' ≡ out) (λ a. DotsFilled i a out out') verdictCode (one verdictReport) code
+abbrev pub DotsCall : (i : PlacedNetwork) (code : ℕ) (marks marks' : List ℕ) (out out' : List Float) (report report' : List ℕ) → Type 0
+DotsCall i code marks marks' out out' =
+    Reporting 1 (countVerdict (i .net .shape)) ((marks' ≡ marks) × (out' ≡ out))
+    (λ a. DotsFilled i a marks marks' out out') verdictCode (one verdictReport) code
 
-abbrev pub ScalesCall : (i : PlacedNetwork) (code : ℕ) (out out' : List Float) (report report' : List ℕ) → Type 0
-ScalesCall i code out out' =
-    Reporting 1 (countVerdict (i .net .shape)) (out' ≡ out) (λ a. ScalesFilled i a out out') verdictCode (one verdictReport) code
+abbrev pub ScalesCall : (i : PlacedNetwork) (code : ℕ) (marks marks' : List ℕ) (out out' : List Float) (report report' : List ℕ) → Type 0
+ScalesCall i code marks marks' out out' =
+    Reporting 1 (countVerdict (i .net .shape)) ((marks' ≡ marks) × (out' ≡ out))
+    (λ a. ScalesFilled i a marks marks' out out') verdictCode (one verdictReport) code
 
 -- ---- the solve
 
-abbrev pub SolveCall : (i : Submission) (code : ℕ) (work work' cameras cameras' points points' : List Float) (report report' : List ℕ) → Type 0
-SolveCall i code work work' cameras cameras' points points' =
-    Reporting 4 (countVerdict (i .net .shape)) ((work' ≡ work) × (cameras' ≡ cameras) × (points' ≡ points))
-    (λ a. Solved i a work work' cameras cameras' points points') answerCode answerReport code
+abbrev pub SolveCall : (i : Submission) (code : ℕ) (marks marks' : List ℕ) (work work' cameras cameras' points points' : List Float)
+    (report report' : List ℕ) → Type 0
+SolveCall i code marks marks' work work' cameras cameras' points points' =
+    Reporting 4 (countVerdict (i .net .shape)) ((marks' ≡ marks) × (work' ≡ work) × (cameras' ≡ cameras) × (points' ≡ points))
+    (λ a. Solved i a marks marks' work work' cameras cameras' points points') answerCode answerReport code
 
 -- ---- images: 20 to 22, and then 1 and 2, come before 3
 

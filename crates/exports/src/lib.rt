@@ -139,6 +139,7 @@ pub extern "C" fn vobzeile_dots<'a>(
     points: &[f64],
     offsets: &[usize],
     listed: &[usize],
+    marks: &mut [usize],
     current: &'a [f64],
     trial: &'a [f64],
     mark: usize,
@@ -148,8 +149,8 @@ pub extern "C" fn vobzeile_dots<'a>(
     ensures { λ r. ⌜ DotsCall (placedOf
         (networkOf (shapeOf n m b e) (now (ends .entry)) (now (rays .entry)) (now (weights .entry)) (now (scales .entry))
         (now (points .entry)) (now (offsets .entry)) (now (listed .entry)))
-        (now (current .entry)) (now (trial .entry)) (not (eqb mark 0)) (length (now (out .entry))))
-        r (now (out .entry)) (now (out .exit)) (now (report .entry)) (now (report .exit)) ⌝ }
+        (length (now (marks .entry))) (now (current .entry)) (now (trial .entry)) (not (eqb mark 0)) (length (now (out .entry))))
+        r (now (marks .entry)) (now (marks .exit)) (now (out .entry)) (now (out .exit)) (now (report .entry)) (now (report .exit)) ⌝ }
 {
     let s = shape(n, m, b, e);
     if report.len() != 1 {
@@ -164,6 +165,7 @@ pub extern "C" fn vobzeile_dots<'a>(
         points,
         offsets,
         listed,
+        marks,
         current,
         trial,
         mark != 0,
@@ -187,6 +189,7 @@ pub extern "C" fn vobzeile_scales<'a>(
     points: &[f64],
     offsets: &[usize],
     listed: &[usize],
+    marks: &mut [usize],
     current: &'a [f64],
     trial: &'a [f64],
     mark: usize,
@@ -196,8 +199,8 @@ pub extern "C" fn vobzeile_scales<'a>(
     ensures { λ r. ⌜ ScalesCall (placedOf
         (networkOf (shapeOf n m b e) (now (ends .entry)) (now (rays .entry)) (now (weights .entry)) (now (scales .entry))
         (now (points .entry)) (now (offsets .entry)) (now (listed .entry)))
-        (now (current .entry)) (now (trial .entry)) (not (eqb mark 0)) (length (now (out .entry))))
-        r (now (out .entry)) (now (out .exit)) (now (report .entry)) (now (report .exit)) ⌝ }
+        (length (now (marks .entry))) (now (current .entry)) (now (trial .entry)) (not (eqb mark 0)) (length (now (out .entry))))
+        r (now (marks .entry)) (now (marks .exit)) (now (out .entry)) (now (out .exit)) (now (report .entry)) (now (report .exit)) ⌝ }
 {
     let s = shape(n, m, b, e);
     if report.len() != 1 {
@@ -212,6 +215,7 @@ pub extern "C" fn vobzeile_scales<'a>(
         points,
         offsets,
         listed,
+        marks,
         current,
         trial,
         mark != 0,
@@ -235,6 +239,7 @@ pub extern "C" fn vobzeile_solve(
     points: &[f64],
     offsets: &[usize],
     listed: &[usize],
+    marks: &mut [usize],
     route: usize,
     limit: usize,
     work: &mut [f64],
@@ -245,9 +250,9 @@ pub extern "C" fn vobzeile_solve(
     ensures { λ r. ⌜ SolveCall (submission
         (networkOf (shapeOf n m b e) (now (ends .entry)) (now (rays .entry)) (now (weights .entry)) (now (scales .entry))
         (now (points .entry)) (now (offsets .entry)) (now (listed .entry)))
-        route limit (length (now (work .entry))) (length (now (cameras .entry))) (length (now (placed .entry))))
-        r (now (work .entry)) (now (work .exit)) (now (cameras .entry)) (now (cameras .exit)) (now (placed .entry)) (now (placed .exit))
-        (now (report .entry)) (now (report .exit)) ⌝ }
+        (length (now (marks .entry))) route limit (length (now (work .entry))) (length (now (cameras .entry))) (length (now (placed .entry))))
+        r (now (marks .entry)) (now (marks .exit)) (now (work .entry)) (now (work .exit)) (now (cameras .entry)) (now (cameras .exit))
+        (now (placed .entry)) (now (placed .exit)) (now (report .entry)) (now (report .exit)) ⌝ }
 {
     let s = shape(n, m, b, e);
     if report.len() != 4 {
@@ -262,6 +267,7 @@ pub extern "C" fn vobzeile_solve(
         points,
         offsets,
         listed,
+        marks,
         route,
         limit,
         work,

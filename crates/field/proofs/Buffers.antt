@@ -211,6 +211,9 @@ module _ {ℓ} {A : Type ℓ} where
       let e : length (replicate n v) ≡ n = length-replicate n v in
       sym (write-front d (replicate n v) (omega arith) ∙ ap (λ (k : ℕ). replicate n v ++ drop k d) e)
 
+  pub fill-whole : (n : ℕ) (v : A) (d : List A) → length d ≡ n → replicate n v ++ drop n d ≡ replicate n v
+  fill-whole n v d e = filled-write n v d (omega arith) ∙ write-whole d (replicate n v) (e ∙ sym (length-replicate n v))
+
 -- ---- cells
 
 -- a cell keeps its width, and a value and its numbers tell each other

@@ -1,13 +1,14 @@
 -- Laws of counting: of `upto`, `field` and `lowest`. Assumes nothing.
 use mathlib.Core.Path.{_≡_, refl, sym, ap, ap₂, subst, _∙_}
-use mathlib.Core.Logic.{⊎-elim}
+use mathlib.Core.Logic.{⊎-elim, dite}
 use mathlib.Core.List.{List, [], _∷_, _++_, append-assoc, append-nil}
 use mathlib.Core.Bool.{Bool, true, false, cond}
 use Prim.Native.Nat.{ℕ, zero, suc, _+_, _≤_, _<_}
 use native.Mathlib.Nat.{add-zero, add-suc, eq-or-lt-of-le, le-of-suc-le-suc}
+use native.Mathlib.Decide.{ℕ-discrete}
 use native.Mathlib.Omega.{arith}
-use lib.ListN.{length, getD, length-append, List·getD-append}
-use lib.Seq.{getD-at, ext-getD}
+use lib.ListN.{length, getD, replicate, set, length-append, length-replicate, length-set, getD-replicate, List·getD-append}
+use lib.Seq.{getD-at, getD-set-same, getD-set-other, ext-getD}
 use Rattle.field.specs.declared.Place.{Place}
 use Rattle.field.specs.declared.Place.the-variants.{At, Nowhere}
 use Rattle.field.specs.Count.{upto, field, lowest, orElse, shift}
@@ -91,6 +92,11 @@ module _ {ℓ} {A : Type ℓ} where
   field-ext zero g k h = refl
   field-ext (suc n) g k h = ap₂ (λ (t : List A) (v : A). t ++ (v ∷ [])) (field-ext n g k (λ i l. h i (omega arith))) (h n (omega arith))
 
+  pub field-same : (n : ℕ) (g : ℕ → A) (v : A) → ((i : ℕ) → g i ≡ v) → field n g ≡ replicate n v
+  field-same n g v h =
+      ext-getD v (field n g) (replicate n v) (length-field n g ∙ sym (length-replicate n v))
+      (λ i k. let l : i < n = omega (arith, length-field n g) in getD-field n g i v l ∙ h i ∙ sym (getD-replicate n i v v l))
+
   -- the first n elements, then k more
   pub field-add : (n k : ℕ) (g : ℕ → A) → field (n + k) g ≡ field n g ++ field k (λ i. g (n + i))
   unfolding field
@@ -106,6 +112,20 @@ module _ {ℓ} {A : Type ℓ} where
       let g : ℕ → A = λ i. getD l i d in
       let h : length (field n g) ≡ n = length-field n g in
       ext-getD d (field n g) l (h ∙ sym e) (λ i k. getD-field n g i d (omega arith))
+
+  -- one element changed
+  pub set-field : (n : ℕ) (g h : ℕ → A) (i : ℕ) → i < n → ((j : ℕ) → j < n → (j ≡ i → ⊥) → g j ≡ h j) → set (field n g) i (h i) ≡ field n h
+  set-field n g h i l same =
+      let e : length (field n g) ≡ n = length-field n g in
+      ext-getD (h i) _ _ (length-set (field n g) i (h i) ∙ e ∙ sym (length-field n h)) at
+    where
+      at : (j : ℕ) → j < length (set (field n g) i (h i)) → getD (set (field n g) i (h i)) j (h i) ≡ getD (field n h) j (h i)
+      at j k =
+          let m : j < n = omega (arith, length-set (field n g) i (h i), length-field n g) in
+          dite
+          (ℕ-discrete j i)
+          (λ (q : j ≡ i). rw q (getD-set-same (field n g) i (h i) (h i) (omega (arith, length-field n g)) ∙ sym (getD-field n h i (h i) l)))
+          (λ (q : j ≡ i → ⊥). getD-set-other (field n g) i j (h i) (h i) q ∙ getD-field n g j (h i) m ∙ same j m q ∙ sym (getD-field n h j (h i) m))
 
 -- ---- lowest
 

@@ -53,6 +53,18 @@ unfolding sumBelow
 sum-bound g a zero h = omega arith
 sum-bound g a (suc k) h = let e = sum-bound g a k h in omega (arith, h k, mul-suc a k)
 
+-- n numbers of at most 1 that add up to n are each 1
+pub sum-full : (g : ℕ → ℕ) (n : ℕ) → ((i : ℕ) → g i ≤ 1) → sumBelow g n ≡ n → (i : ℕ) → i < n → g i ≡ 1
+unfolding sumBelow
+sum-full g zero h e i l = absurd (omega arith)
+sum-full g (suc n) h e i l =
+    let a = sum-bound g 1 n h in
+    let b = h n in
+    ⊎-elim
+    (λ (q : i ≡ n). rw q (let f : g n ≡ 1 = omega arith in f))
+    (λ (k : i < n). sum-full g n h (omega arith) i k)
+    (eq-or-lt-of-le (le-of-suc-le-suc l))
+
 -- ---- how many
 
 pub indicator-most : (b : Bool) → indicator b ≤ 1
@@ -66,6 +78,15 @@ count-none p = sum-none (λ i. indicator (p i))
 pub count-more : (p : ℕ → Bool) (i k c : ℕ) → k ≡ countBelow p i → c ≡ indicator (p i) → k + c ≡ countBelow p (i + 1)
 unfolding countBelow
 count-more p i k c e f = rw (add-one, sum-suc, e, f)
+
+pub count-grows : (p : ℕ → Bool) (i k : ℕ) → i ≤ k → countBelow p i ≤ countBelow p k
+unfolding countBelow sumBelow
+count-grows p i zero h = let e : i ≡ 0 = omega arith in rw e (omega arith)
+count-grows p i (suc k) h =
+    ⊎-elim
+    (λ (q : i ≡ suc k). rw q (omega arith))
+    (λ (l : i < suc k). let a = count-grows p i k (omega arith) in omega arith)
+    (eq-or-lt-of-le h)
 
 pub count-ext : (p q : ℕ → Bool) (k : ℕ) → ((i : ℕ) → i < k → p i ≡ q i) → countBelow p k ≡ countBelow q k
 unfolding countBelow

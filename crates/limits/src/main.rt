@@ -35,7 +35,7 @@ fn refusal(r: Refusal) {
     number(r.place);
 }
 
-fn verdict(name: &[u8], v: Verdict) {
+fn told(name: &[u8], v: Verdict) {
     write_all(1, name);
     write_all(1, b": ");
     match v {
@@ -44,6 +44,10 @@ fn verdict(name: &[u8], v: Verdict) {
             write_all(1, b"passed");
         }
     }
+}
+
+fn verdict(name: &[u8], v: Verdict) {
+    told(name, v);
     write_all(1, b"\n");
 }
 
@@ -107,6 +111,7 @@ fn solve(name: &[u8], c: Case, route: usize, limit: usize) {
     let points = c.points;
     let offsets = c.offsets;
     let listed = c.listed;
+    let mut marks = [7usize; 3];
     let v = check_solve(
         shape(3, 2, 3, 1),
         &ends,
@@ -116,10 +121,13 @@ fn solve(name: &[u8], c: Case, route: usize, limit: usize) {
         &points,
         &offsets,
         &listed,
+        &mut marks,
         route,
         limit,
     );
-    verdict(name, v);
+    told(name, v);
+    write_all(1, b", marks");
+    shown(&marks);
 }
 
 fn with_end(name: &[u8], at: usize, x: usize) {
@@ -176,19 +184,19 @@ fn step(
     offsets: &[usize],
     listed: &[usize],
 ) {
-    verdict(
-        name,
-        check_step(
-            shape(3, 2, 3, 1),
-            ends,
-            rays,
-            weights,
-            scales,
-            points,
-            offsets,
-            listed,
-        ),
+    let mut marks = [7usize; 3];
+    let v = check_step(
+        shape(3, 2, 3, 1),
+        ends,
+        rays,
+        weights,
+        scales,
+        points,
+        offsets,
+        listed,
+        &mut marks,
     );
+    verdict(name, v);
 }
 
 // The good network with one slice in the place of its own.
@@ -283,6 +291,23 @@ fn listed_of(name: &[u8], listed: &[usize]) {
     );
 }
 
+fn marks_of(name: &[u8], marks: &mut [usize]) {
+    let v = check_step(
+        shape(3, 2, 3, 1),
+        &ENDS,
+        &RAYS,
+        &WEIGHTS,
+        &SCALES,
+        &POINTS,
+        &OFFSETS,
+        &LISTED,
+        marks,
+    );
+    told(name, v);
+    write_all(1, b", marks");
+    shown(marks);
+}
+
 // A graph of n cameras, the direction 0-1 of weight 1 and 1-2 of weight v.
 fn connectivity(name: &[u8], n: usize, v: f64, nodes: &mut [usize]) {
     let ends = [0usize, 1, 1, 2];
@@ -367,6 +392,7 @@ fn short() {
     points_of(b"points one short", &[0.0; 5]);
     offsets_of(b"offsets one short", &[0usize; 2]);
     listed_of(b"listed one short", &[0usize; 2]);
+    marks_of(b"marks one short", &mut [7usize; 2]);
 }
 
 fn long() {
@@ -377,6 +403,7 @@ fn long() {
     points_of(b"points one long", &[0.0; 7]);
     offsets_of(b"offsets one long", &[0usize; 4]);
     listed_of(b"listed one long", &[0usize; 4]);
+    marks_of(b"marks one long", &mut [7usize; 4]);
 }
 
 fn rows() {
@@ -400,7 +427,7 @@ fn rows() {
     with_lists(b"lists: offsets fall", [0, 4, 3], [0, 1, 2]);
     with_lists(b"lists: row repeated", [0, 2, 3], [0, 0, 2]);
     with_lists(b"lists: descending", [0, 2, 3], [1, 0, 2]);
-    with_lists(b"lists: foreign row", [0, 2, 3], [0, 2, 1]);
+    with_lists(b"lists: row of another point", [0, 2, 3], [0, 2, 1]);
     with_lists(b"lists: no bearing", [0, 2, 3], [0, 1, 3]);
     with_lists(b"lists: row under another point", [0, 1, 3], [0, 1, 2]);
     solve(b"route 0", good(), 0, 0);

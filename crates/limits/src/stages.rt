@@ -17,6 +17,7 @@ pub(crate) fn check_step(
     points: &[f64],
     offsets: &[usize],
     listed: &[usize],
+    marks: &mut [usize],
 ) -> Verdict {
     let counts = check_counts(s);
     if let Verdict::Refused(r) = counts {
@@ -27,7 +28,21 @@ pub(crate) fn check_step(
     if let Verdict::Refused(r) = lengths {
         return Verdict::Refused(r);
     }
-    check_network_rows(s, ends, rays, weights, scales, points, offsets, listed)
+    let room = check_lengths(marks.len() == s.bearings);
+    if let Verdict::Refused(r) = room {
+        return Verdict::Refused(r);
+    }
+    check_network_rows(
+        s,
+        ends,
+        rays,
+        weights,
+        scales,
+        points,
+        offsets,
+        listed,
+        marks,
+    )
 }
 
 // 1 to 8.
@@ -40,10 +55,21 @@ pub(crate) fn check_solve(
     points: &[f64],
     offsets: &[usize],
     listed: &[usize],
+    marks: &mut [usize],
     route: usize,
     limit: usize,
 ) -> Verdict {
-    let step = check_step(s, ends, rays, weights, scales, points, offsets, listed);
+    let step = check_step(
+        s,
+        ends,
+        rays,
+        weights,
+        scales,
+        points,
+        offsets,
+        listed,
+        marks,
+    );
     if let Verdict::Refused(r) = step {
         return Verdict::Refused(r);
     }

@@ -18,15 +18,16 @@ use Rattle.field.specs.Buffer.{get, vector}
 use Rattle.field.proofs.Counting.{none-of}
 use Rattle.network.specs.declared.Shape.{Shape}
 use Rattle.network.specs.declared.Verdict.{Verdict}
-use Rattle.network.specs.declared.Verdict.the-variants.{Passed}
+use Rattle.network.specs.declared.Refusal.{Refusal}
+use Rattle.network.specs.declared.Verdict.the-variants.{Refused, Passed}
 use Rattle.network.specs.Network.{Graph, Links, Network, links, rows, firstEnd, secondEnd, spanOf, rowAt}
 use Rattle.network.specs.Refusals.{verdict, Section, running, badWeight, badScale, badVector, badRow, badCameras, badCounts, countTests, endsFit, raysFit, vectorsFit, listsFit}
 use Rattle.network.specs.Refusals.{contentFits, networkFits, lengthTests, strays, loops, endTests, listTests, weightTests, rowSections, domainTests, badRoute, routeTests, denseRows}
-use Rattle.network.specs.Refusals.{graphRowTests, networkRowTests, networkTests}
+use Rattle.network.specs.Refusals.{earlyTests, linkTests, graphRowTests, networkRowTests, networkTests, marksAfter}
 use Rattle.network.specs.inner.Sound.{ShapeSound, ContentLengths, NetworkLengths, EndsSound, OffsetsSound, ListedSound, LinksSound, GraphSound, NetworkSound}
-use Rattle.network.proofs.Verdicts.{first-passed, stage-passed, verdict-one, test-passed, test-at-passed, passed-test}
+use Rattle.network.proofs.Verdicts.{first-passed, stage-passed, verdict-one, test-passed, test-at-passed, passed-test, marks-halt, marks-pass}
 use Rattle.network.proofs.Sections.{running-passed}
-use Rattle.network.proofs.PointLists.{locate, named-some, lists-parts, is-bearing, own-point, ascends, once}
+use Rattle.network.proofs.PointLists.{locate, named-some, lists-parts, is-bearing, own-point, once}
 
 -- what a test of one list says
 only : (v : Verdict) → verdict (v ∷ []) ≡ Passed → v ≡ Passed
@@ -131,8 +132,7 @@ links-sound s ends offsets listed E o l e =
       offsets = t .0;
       listed = record { size = l; bearing = is-bearing _ _ _ _ _ (t .0) (t .1) };
       own = own-point _ _ _ _ _ (t .0) (t .1);
-      ascends = ascends _ _ _ _ _ (t .0) (t .1);
-      once = once _ _ _ _ _ (t .0) (t .1);
+      once = once _ _ ends _ _ (t .0) (t .2);
     }
 
 -- a bearing stands in its own point's list, since it is named, and under no other point
@@ -195,15 +195,15 @@ graph-sound g s f e =
 
 pub network-sound : (net : Network) (cameras : List Section) → ShapeSound (net .shape) → networkFits net ≡ true → verdict (networkRowTests net cameras) ≡ Passed →
     NetworkSound net × (running cameras ≡ Nowhere)
-unfolding networkRowTests
+unfolding networkRowTests linkTests
 network-sound net cameras s f e =
     let n = network-fits net f in
-    let h = stage-passed (endTests (net .shape) (net .ends)) _ e in
-    let k = stage-passed (listTests (net .shape) (net .ends) (net .offsets) (net .listed)) _ (h .1) in
-    let d = domain-sound (net .shape) (net .rays) (net .weights) (net .scales) (net .positions) cameras (k .1) in
-    let E = ends-sound (net .shape) (net .ends) s (n .content .ends) (h .0) in (
+    let h = stage-passed (linkTests (net .shape) (net .ends) (net .offsets) (net .listed)) _ e in
+    let k = stage-passed (endTests (net .shape) (net .ends)) _ (h .0) in
+    let d = domain-sound (net .shape) (net .rays) (net .weights) (net .scales) (net .positions) cameras (h .1) in
+    let E = ends-sound (net .shape) (net .ends) s (n .content .ends) (k .0) in (
       record {
-        links = links-sound (net .shape) (net .ends) (net .offsets) (net .listed) E (n .offsets) (n .listed) (k .0);
+        links = links-sound (net .shape) (net .ends) (net .offsets) (net .listed) E (n .offsets) (n .listed) (k .1);
         lengths = n;
         row = d .0;
         position = d .1;
@@ -218,6 +218,25 @@ tests-sound net e =
     let h = stage-passed (countTests (net .shape)) _ e in
     let k = stage-passed (lengthTests (networkFits net)) _ (h .1) in
     network-sound net [] (counts-sound _ (h .0)) (lengths-fit _ (k .0)) (k .1) .0
+
+-- ---- the marks of a call that tests 1 and 2 (x), then 3 (v), then 4 and 5
+
+module _ (s : Shape) (fit : Bool) (ends marks : List ℕ) {x : Verdict} (c : x ≡ verdict (countTests s)) where
+  abbrev after : List ℕ
+  after = marksAfter (verdict (earlyTests s fit ends)) (s .bearings) marks
+
+  pub kept-by-counts : {r : Refusal} → x ≡ Refused r → marks ≡ after
+  unfolding earlyTests
+  kept-by-counts h = marks-halt (countTests s) (s .bearings) marks c _ h
+
+  module _ {v : Verdict} (p : x ≡ Passed) (f : v ≡ verdict (lengthTests fit)) where
+    pub kept-by-lengths : {r : Refusal} → v ≡ Refused r → marks ≡ after
+    unfolding earlyTests
+    kept-by-lengths h = marks-pass (countTests s) (s .bearings) marks c _ p (marks-halt (lengthTests fit) (s .bearings) marks f _ h)
+
+    pub left-by-rows : {marks' : List ℕ} → v ≡ Passed → marks' ≡ marksAfter (verdict (endTests s ends)) (s .bearings) marks → marks' ≡ after
+    unfolding earlyTests
+    left-by-rows q k = marks-pass (countTests s) (s .bearings) marks c _ p (marks-pass (lengthTests fit) (s .bearings) marks f _ q k)
 
 -- ---- 8
 

@@ -9,7 +9,8 @@ use Rattle.field.specs.declared.Place.the-variants.{At, Nowhere}
 use Rattle.network.specs.declared.Refusal.{Refusal}
 use Rattle.network.specs.declared.Verdict.{Verdict}
 use Rattle.network.specs.declared.Verdict.the-variants.{Refused, Passed}
-use Rattle.network.specs.Refusals.{test, testAt, andThen, verdict}
+use lib.ListN.{replicate}
+use Rattle.network.specs.Refusals.{test, testAt, andThen, verdict, marksAfter}
 
 -- ---- one verdict after another
 
@@ -61,6 +62,22 @@ passes-in us vs e h k = k ∙ sym (verdict-append us vs ∙ then-next (verdict v
 -- it makes the last one
 pub last : {x v : Verdict} → x ≡ v → x ≡ verdict (v ∷ [])
 last {v = v} e = e ∙ sym (verdict-one v)
+
+-- ---- the marks of such a function, where the tests are those before 6
+
+module _ {x : Verdict} (us : List Verdict) (b : ℕ) (marks : List ℕ) (e : x ≡ verdict us) where
+  pub marks-left : {r : Refusal} → x ≡ Refused r → marks ≡ marksAfter (verdict us) b marks
+  marks-left h = rw (← e, h)
+
+  pub marks-zero : {marks' : List ℕ} → x ≡ Passed → marks' ≡ replicate b 0 → marks' ≡ marksAfter (verdict us) b marks
+  marks-zero h k = k ∙ rw (← e, h)
+
+  module _ (vs : List Verdict) where
+    pub marks-halt : {r : Refusal} → x ≡ Refused r → marks ≡ marksAfter (verdict (us ++ vs)) b marks
+    marks-halt h = rw (← halts-in us vs e h)
+
+    pub marks-pass : {marks' : List ℕ} → x ≡ Passed → marks' ≡ marksAfter (verdict vs) b marks → marks' ≡ marksAfter (verdict (us ++ vs)) b marks
+    marks-pass h k = k ∙ rw (verdict-append us vs, then-next (verdict vs) (sym e ∙ h))
 
 -- ---- tests that all pass
 

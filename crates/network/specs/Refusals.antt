@@ -2,7 +2,7 @@
 use Prim.Native.Nat.{ℕ, _+_, _-_, _*_}
 use mathlib.Core.List.{List, [], _∷_, _++_}
 use mathlib.Core.Bool.{Bool, cond, not, _&&_, _||_}
-use lib.ListN.{length, getD}
+use lib.ListN.{length, getD, replicate}
 use lib.Dec.{eqb, ltb, leb}
 use lib.Ieee.{Float, nan, lt}
 use lib.Ieee.Scale.{finite}
@@ -125,6 +125,12 @@ endTests s ends =
 unfoldable pub listTests : Shape → List ℕ → List ℕ → List ℕ → List Verdict
 listTests s ends offsets listed = test 6 (not (listsHold (s .points) (s .bearings) ends offsets listed)) ∷ []
 
+-- R-6: 'a mark buffer of B numbers .. ends all zero once 6 has been tested', whatever 6 or a later test then says. The verdict is that of the tests
+-- before 6: where one of these refuses, the b marks stay as they were.
+abbrev pub marksAfter : Verdict → ℕ → List ℕ → List ℕ
+marksAfter (Refused r) b marks = marks
+marksAfter Passed b marks = replicate b 0
+
 -- ---- 7: the domain
 
 -- a weight that is not finite, or below zero (-0.0 is not)
@@ -173,12 +179,19 @@ denseRows n route limit = cond (badRoute route limit || (eqb route 2 || ltb limi
 unfoldable pub graphRowTests : Graph → List Verdict
 graphRowTests g = endTests (g .shape) (g .ends) ++ weightTests (g .shape) (g .weights)
 
+-- 1 to 5, the tests before 6, of a call whose slices all have their lengths where `fit` holds
+unfoldable pub earlyTests : Shape → Bool → List ℕ → List Verdict
+earlyTests s fit ends = countTests s ++ (lengthTests fit ++ endTests s ends)
+
+-- 4 to 6
+unfoldable pub linkTests : Shape → List ℕ → List ℕ → List ℕ → List Verdict
+linkTests s ends offsets listed = endTests s ends ++ listTests s ends offsets listed
+
 -- 4 to 7 of the whole network; a call that is lent camera positions adds their section
 unfoldable pub networkRowTests : Network → List Section → List Verdict
 networkRowTests net cameras =
-    endTests (net .shape) (net .ends)
-    ++ (listTests (net .shape) (net .ends) (net .offsets) (net .listed)
-    ++ domainTests (rowSections (net .shape) (net .rays) (net .weights) (net .scales) (net .positions) ++ cameras))
+    linkTests (net .shape) (net .ends) (net .offsets) (net .listed)
+    ++ domainTests (rowSections (net .shape) (net .rays) (net .weights) (net .scales) (net .positions) ++ cameras)
 
 -- 1 to 7 of the network alone: a call that is lent buffers tests their lengths in 3 too
 unfoldable pub networkTests : Network → List Verdict

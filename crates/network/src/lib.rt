@@ -17,9 +17,9 @@ use lists::check_lists;
 ghost use mathlib.Core.Path.{_≡_};
 ghost use mathlib.Core.List.{[], _∷_};
 ghost use lib.ListN.{length};
-ghost use Prim.Native.Nat.{_*_};
+ghost use Prim.Native.Nat.{_+_, _*_};
 ghost use Rattle.network.specs.Network.{graph, network, rows};
-ghost use Rattle.network.specs.Refusals.{verdict, countTests, graphRowTests, networkRowTests, section, badVector};
+ghost use Rattle.network.specs.Refusals.{verdict, countTests, endTests, linkTests, graphRowTests, networkRowTests, marksAfter, section, badVector};
 ghost use Rattle.network.specs.inner.Sound.{ShapeSound, NetworkLengths};
 
 // The four counts: cameras n, points m, bearings B, directions E.
@@ -78,6 +78,28 @@ pub fn check_graph_rows(s: Shape, ends: &[usize], weights: &[f64]) -> Verdict
     check_weights(s, weights)
 }
 
+// 4 to 6. Once 6 has been tested, the marks are all zero.
+pub fn check_links(
+    s: Shape,
+    ends: &[usize],
+    offsets: &[usize],
+    listed: &[usize],
+    marks: &mut [usize],
+) -> Verdict
+    requires { ⌜ ShapeSound s ⌝ }
+    requires { ⌜ length (now ends) ≡ 2 * rows s ⌝ }
+    requires { ⌜ length (now offsets) ≡ s .points + 1 ⌝ }
+    requires { ⌜ (length (now listed) ≡ s .bearings) × (length (now marks) ≡ s .bearings) ⌝ }
+    ensures { λ r. ⌜ r ≡ verdict (linkTests s (now (ends .entry)) (now (offsets .entry)) (now (listed .entry))) ⌝ }
+    ensures { λ _. ⌜ now (marks .exit) ≡ marksAfter (verdict (endTests s (now (ends .entry)))) (s .bearings) (now (marks .entry)) ⌝ }
+{
+    let stray = check_ends(s, ends);
+    if let Verdict::Refused(r) = stray {
+        return Verdict::Refused(r);
+    }
+    check_lists(s, ends, offsets, listed, marks)
+}
+
 // 4 to 7 of the whole network.
 pub fn check_network_rows(
     s: Shape,
@@ -88,20 +110,19 @@ pub fn check_network_rows(
     points: &[f64],
     offsets: &[usize],
     listed: &[usize],
+    marks: &mut [usize],
 ) -> Verdict
     requires { ⌜ ShapeSound s ⌝ }
     requires { ⌜ NetworkLengths (network s (now ends) (now rays) (now weights) (now scales) (now points) (now offsets) (now listed)) ⌝ }
+    requires { ⌜ length (now marks) ≡ s .bearings ⌝ }
     ensures { λ r. ⌜ r ≡ verdict (networkRowTests
         (network s (now (ends .entry)) (now (rays .entry)) (now (weights .entry)) (now (scales .entry)) (now (points .entry))
         (now (offsets .entry)) (now (listed .entry)))
         []) ⌝ }
+    ensures { λ _. ⌜ now (marks .exit) ≡ marksAfter (verdict (endTests s (now (ends .entry)))) (s .bearings) (now (marks .entry)) ⌝ }
 {
-    let stray = check_ends(s, ends);
-    if let Verdict::Refused(r) = stray {
-        return Verdict::Refused(r);
-    }
-    let lists = check_lists(s, ends, offsets, listed);
-    if let Verdict::Refused(r) = lists {
+    let links = check_links(s, ends, offsets, listed, marks);
+    if let Verdict::Refused(r) = links {
         return Verdict::Refused(r);
     }
     check_domain(s, rays, weights, scales, points)
@@ -117,22 +138,20 @@ pub fn check_placed_rows(
     points: &[f64],
     offsets: &[usize],
     listed: &[usize],
+    marks: &mut [usize],
     cameras: &[f64],
 ) -> Verdict
     requires { ⌜ ShapeSound s ⌝ }
     requires { ⌜ NetworkLengths (network s (now ends) (now rays) (now weights) (now scales) (now points) (now offsets) (now listed)) ⌝ }
-    requires { ⌜ length (now cameras) ≡ 3 * s .cameras ⌝ }
+    requires { ⌜ (length (now marks) ≡ s .bearings) × (length (now cameras) ≡ 3 * s .cameras) ⌝ }
     ensures { λ r. ⌜ r ≡ verdict (networkRowTests
         (network s (now (ends .entry)) (now (rays .entry)) (now (weights .entry)) (now (scales .entry)) (now (points .entry))
         (now (offsets .entry)) (now (listed .entry)))
         (section (s .cameras) (badVector (now (cameras .entry))) ∷ [])) ⌝ }
+    ensures { λ _. ⌜ now (marks .exit) ≡ marksAfter (verdict (endTests s (now (ends .entry)))) (s .bearings) (now (marks .entry)) ⌝ }
 {
-    let stray = check_ends(s, ends);
-    if let Verdict::Refused(r) = stray {
-        return Verdict::Refused(r);
-    }
-    let lists = check_lists(s, ends, offsets, listed);
-    if let Verdict::Refused(r) = lists {
+    let links = check_links(s, ends, offsets, listed, marks);
+    if let Verdict::Refused(r) = links {
         return Verdict::Refused(r);
     }
     check_placed_domain(s, rays, weights, scales, points, cameras)

@@ -1,17 +1,20 @@
-// 6: the point lists. A list is tested place by place; that its rows then name every bearing once is a theorem.
+// 6: the point lists. Rows are marked as the lists name them; that B different mentions leave none of B rows out is a theorem.
 use crate::Shape;
 use crate::Verdict;
 use crate::answers::both;
 use crate::answers::is_nowhere;
 use crate::answers::refused_if;
 use field::Place;
+use field::clear_numbers;
 ghost use mathlib.Core.Path.{_≡_};
 ghost use Prim.Native.Nat.{_+_, _*_, _<_, _≤_};
-ghost use lib.ListN.{length, getD};
+ghost use mathlib.Core.Bool.{not, true};
+ghost use lib.ListN.{length, getD, replicate};
 ghost use Rattle.field.specs.Count.{lowest};
-ghost use Rattle.network.specs.Lists.{falls, offsetsRise, misplaced, disordered, listsHold};
+ghost use Rattle.network.specs.Lists.{none, falls, offsetsRise, listsHold};
 ghost use Rattle.network.specs.Network.{rows};
 ghost use Rattle.network.specs.Refusals.{verdict, listTests};
+ghost use Rattle.network.specs.inner.Marks.{Marked, hasUnfit, unfit};
 ghost use Rattle.network.specs.inner.Sound.{OffsetsSound};
 
 // The lowest of m points whose list ends before it starts.
@@ -37,104 +40,146 @@ fn offsets_rise(m: usize, b: usize, offsets: &[usize]) -> bool
     both(offsets[0] == 0, both(offsets[m] == b, rise))
 }
 
-// The i-th row of point p's list, which starts at place `start`, stands wrong.
-fn misplaced_at(
+// Marks the row at place k of the lists, which is under point p: whether it is a bearing of p's that was not marked before.
+fn mark_row(
     b: usize,
     ends: &[usize],
     listed: &[usize],
     p: usize,
-    start: usize,
-    i: usize,
+    k: usize,
+    marks: &mut [usize],
 ) -> bool
     requires { ⌜ 2 * b ≤ length (now ends) ⌝ }
-    requires { ⌜ start + i < length (now listed) ⌝ }
-    ensures { λ r. ⌜ r ≡ misplaced b (now (ends .entry)) (now (listed .entry)) p start i ⌝ }
+    requires { ⌜ k < length (now listed) ⌝ }
+    requires { ⌜ Marked b (now listed) true k (now marks) ⌝ }
+    ensures { λ r. ⌜ r ≡ not (unfit b (now (ends .entry)) (now (listed .entry)) p k) ⌝ }
+    ensures { λ r. ⌜ Marked b (now (listed .entry)) r (k + 1) (now (marks .exit)) ⌝ }
 {
-    let row = listed[start + i];
+    let row = listed[k];
     if b <= row {
-        return true;
-    }
-    if ends[2 * row + 1] != p {
-        return true;
-    }
-    if i == 0 {
         return false;
     }
-    row <= listed[start + i - 1]
+    if ends[2 * row + 1] != p {
+        return false;
+    }
+    if marks[row] != 0 {
+        return false;
+    }
+    marks[row] = 1;
+    true
 }
 
-// The lowest of the `size` rows of point p's list that stands wrong.
-fn find_misplaced(
+// Marks the `size` rows of point p's list, which starts at place `start`, as long as they are fit: whether all are.
+fn mark_list(
     b: usize,
     ends: &[usize],
     listed: &[usize],
     p: usize,
     start: usize,
     size: usize,
-) -> Place
+    marks: &mut [usize],
+) -> bool
     requires { ⌜ 2 * b ≤ length (now ends) ⌝ }
     requires { ⌜ start + size ≤ length (now listed) ⌝ }
-    ensures { λ r. ⌜ r ≡ lowest (misplaced b (now (ends .entry)) (now (listed .entry)) p start) size ⌝ }
+    requires { ⌜ Marked b (now listed) true start (now marks) ⌝ }
+    ensures { λ r. ⌜ r ≡ none (λ i. unfit b (now (ends .entry)) (now (listed .entry)) p (start + i)) size ⌝ }
+    ensures { λ r. ⌜ Marked b (now (listed .entry)) r (start + size) (now (marks .exit)) ⌝ }
 {
     let mut i = 0usize;
     while i < size {
-        if misplaced_at(b, ends, listed, p, start, i) {
-            return Place::At(i);
+        if !mark_row(b, ends, listed, p, start + i, marks) {
+            return false;
         }
         i += 1;
     }
-    Place::Nowhere
+    true
 }
 
-// Point p's list has a row that stands wrong.
-fn disordered_at(b: usize, ends: &[usize], offsets: &[usize], listed: &[usize], p: usize) -> bool
+// Point p's list.
+fn mark_point(
+    m: usize,
+    b: usize,
+    ends: &[usize],
+    offsets: &[usize],
+    listed: &[usize],
+    p: usize,
+    marks: &mut [usize],
+) -> bool
     requires { ⌜ 2 * b ≤ length (now ends) ⌝ }
-    requires { ⌜ p + 1 < length (now offsets) ⌝ }
-    requires { ⌜ getD (now offsets) p 0 ≤ getD (now offsets) (p + 1) 0 ⌝ }
-    requires { ⌜ getD (now offsets) (p + 1) 0 ≤ length (now listed) ⌝ }
-    ensures { λ r. ⌜ r ≡ disordered b (now (ends .entry)) (now (offsets .entry)) (now (listed .entry)) p ⌝ }
+    requires { ⌜ length (now listed) ≡ b ⌝ }
+    requires { ⌜ OffsetsSound m b (now offsets) × (p < m) ⌝ }
+    requires { ⌜ Marked b (now listed) true (getD (now offsets) p 0) (now marks) ⌝ }
+    ensures { λ r. ⌜ r ≡ not (hasUnfit b (now (ends .entry)) (now (offsets .entry)) (now (listed .entry)) p) ⌝ }
+    ensures { λ r. ⌜ Marked b (now (listed .entry)) r (getD (now (offsets .entry)) (p + 1) 0) (now (marks .exit)) ⌝ }
 {
     let start = offsets[p];
     let size = offsets[p + 1] - start;
-    !is_nowhere(find_misplaced(b, ends, listed, p, start, size))
+    mark_list(b, ends, listed, p, start, size, marks)
 }
 
-// The lowest of m points whose list has a row that stands wrong.
-fn find_disordered(m: usize, b: usize, ends: &[usize], offsets: &[usize], listed: &[usize]) -> Place
+// The lists of m points.
+fn mark_points(
+    m: usize,
+    b: usize,
+    ends: &[usize],
+    offsets: &[usize],
+    listed: &[usize],
+    marks: &mut [usize],
+) -> bool
     requires { ⌜ 2 * b ≤ length (now ends) ⌝ }
-    requires { ⌜ length (now offsets) ≡ m + 1 ⌝ }
     requires { ⌜ length (now listed) ≡ b ⌝ }
     requires { ⌜ OffsetsSound m b (now offsets) ⌝ }
-    ensures { λ r. ⌜ r ≡ lowest (disordered b (now (ends .entry)) (now (offsets .entry)) (now (listed .entry))) m ⌝ }
+    requires { ⌜ Marked b (now listed) true 0 (now marks) ⌝ }
+    ensures { λ r. ⌜ r ≡ none (hasUnfit b (now (ends .entry)) (now (offsets .entry)) (now (listed .entry))) m ⌝ }
+    ensures { λ _. ⌜ length (now (marks .exit)) ≡ b ⌝ }
 {
     let mut p = 0usize;
     while p < m {
-        if disordered_at(b, ends, offsets, listed, p) {
-            return Place::At(p);
+        if !mark_point(m, b, ends, offsets, listed, p, marks) {
+            return false;
         }
         p += 1;
     }
-    Place::Nowhere
+    true
 }
 
-fn lists_hold(m: usize, b: usize, ends: &[usize], offsets: &[usize], listed: &[usize]) -> bool
+// The rule, with b marks that may hold anything.
+fn lists_hold(
+    m: usize,
+    b: usize,
+    ends: &[usize],
+    offsets: &[usize],
+    listed: &[usize],
+    marks: &mut [usize],
+) -> bool
     requires { ⌜ 2 * b ≤ length (now ends) ⌝ }
     requires { ⌜ length (now offsets) ≡ m + 1 ⌝ }
-    requires { ⌜ length (now listed) ≡ b ⌝ }
+    requires { ⌜ (length (now listed) ≡ b) × (length (now marks) ≡ b) ⌝ }
     ensures { λ r. ⌜ r ≡ listsHold m b (now (ends .entry)) (now (offsets .entry)) (now (listed .entry)) ⌝ }
+    ensures { λ _. ⌜ length (now (marks .exit)) ≡ b ⌝ }
 {
     if !offsets_rise(m, b, offsets) {
         return false;
     }
-    is_nowhere(find_disordered(m, b, ends, offsets, listed))
+    clear_numbers(marks, b);
+    mark_points(m, b, ends, offsets, listed, marks)
 }
 
-// 6.
-pub(crate) fn check_lists(s: Shape, ends: &[usize], offsets: &[usize], listed: &[usize]) -> Verdict
+// 6. The marks end all zero.
+pub(crate) fn check_lists(
+    s: Shape,
+    ends: &[usize],
+    offsets: &[usize],
+    listed: &[usize],
+    marks: &mut [usize],
+) -> Verdict
     requires { ⌜ length (now ends) ≡ 2 * rows s ⌝ }
     requires { ⌜ length (now offsets) ≡ s .points + 1 ⌝ }
-    requires { ⌜ length (now listed) ≡ s .bearings ⌝ }
+    requires { ⌜ (length (now listed) ≡ s .bearings) × (length (now marks) ≡ s .bearings) ⌝ }
     ensures { λ r. ⌜ r ≡ verdict (listTests s (now (ends .entry)) (now (offsets .entry)) (now (listed .entry))) ⌝ }
+    ensures { λ _. ⌜ now (marks .exit) ≡ replicate (s .bearings) 0 ⌝ }
 {
-    refused_if(6, !lists_hold(s.points, s.bearings, ends, offsets, listed))
+    let hold = lists_hold(s.points, s.bearings, ends, offsets, listed, marks);
+    clear_numbers(marks, s.bearings);
+    refused_if(6, !hold)
 }

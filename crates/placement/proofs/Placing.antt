@@ -19,7 +19,7 @@ use Rattle.network.specs.declared.Verdict.the-variants.{Refused as Stops, Passe
 use Rattle.network.specs.Network.{Network, links, linksOf, network}
 use Rattle.network.specs.declared.Shape.{Shape}
 use Rattle.network.specs.inner.Sound.{LinksSound, NetworkLengths, NetworkSound}
-use Rattle.network.specs.Refusals.{verdict, countTests, lengthTests, networkFits, networkRowTests, networkTests, routeTests, badRoute}
+use Rattle.network.specs.Refusals.{verdict, countTests, lengthTests, networkFits, networkRowTests, networkTests, routeTests, badRoute, marksAfter}
 use Rattle.network.proofs.Verdicts.{both-passed, passes-in, stage-passed}
 use Rattle.network.proofs.Sound.{fit-lengths, lengths-fit, network-fits, route-sound, tests-sound}
 use Rattle.system.specs.System.{anchor, sumsFrom, terms, weightsOf}
@@ -44,17 +44,17 @@ use Rattle.placement.specs.declared.Report.{Report}
 use Rattle.placement.specs.declared.routes.Ended.{Ended}
 use Rattle.placement.specs.declared.routes.Ended.the-variants.{Failed, Placed}
 use Rattle.placement.specs.Routes.{Submission, Placement, rejected, failing, placed, failingAt, submission, denseOr, byIterative, fallBack, routedBy, routed, buffersFit}
-use Rattle.placement.specs.Routes.{submissionTests, submissionVerdict, checked, placement}
+use Rattle.placement.specs.Routes.{lentFits, submissionTests, submissionVerdict, earlyVerdict, checked, placement}
 use Rattle.placement.specs.Solved.{answerOf, camerasAfter, pointsAfter, workAfter, Solved}
 use Rattle.placement.specs.inner.Routing.{Checked, OutputsFilled, Ran, RouteReady, Routed, denseIn, endedWith, iterativeIn, outcome, reported}
 use Rattle.placement.proofs.Routing.{route-cases, surplus-more, work-room}
 
 -- ---- the checks
 
-pub buffers-are : (s : Shape) (route limit work cameras points t : ℕ) (x y : Bool) → t ≡ workLength s route limit → x ≡ (eqb points (3 * s .points) && leb t work) →
-    y ≡ (eqb cameras (3 * s .cameras) && x) → y ≡ buffersFit s route limit work cameras points
+pub buffers-are : (s : Shape) (marks route limit work cameras points t : ℕ) (x y z : Bool) → t ≡ workLength s route limit → x ≡ (eqb points (3 * s .points) && leb t work) →
+    y ≡ (eqb cameras (3 * s .cameras) && x) → z ≡ (eqb marks (s .bearings) && y) → z ≡ buffersFit s marks route limit work cameras points
 unfolding buffersFit
-buffers-are s route limit work cameras points t x y e f g = rw (← e, ← f) g
+buffers-are s marks route limit work cameras points t x y z e f g h = rw (← e, ← f, ← g) h
 
 pub lengths-are : (v : Verdict) (x y b c : Bool) → x ≡ b → y ≡ c → (z : Bool) → z ≡ (x && y) → v ≡ verdict (lengthTests z) → v ≡ verdict (lengthTests (b && c))
 lengths-are v x y b c e f z g h = h ∙ rw (g, e, f)
@@ -63,14 +63,17 @@ module _ (s : Shape) (ends : List ℕ) (rays weights scales points : List Float)
   abbrev net : Network
   net = network s ends rays weights scales points offsets listed
 
-  pub rows-measured : (v : Verdict) (fit : Bool) → v ≡ verdict (lengthTests (networkFits net && fit)) → v ≡ Passed → NetworkLengths net
-  rows-measured v fit e p = network-fits net (both-true _ _ (lengths-fit _ (sym e ∙ p)) .0)
+  module _ (marks route limit work cameras out : ℕ) (v : Verdict) (f : v ≡ verdict (lengthTests (networkFits net && buffersFit s marks route limit work cameras out))) (q : v ≡ Passed) where
+    pub lengths-measured : NetworkLengths net × (marks ≡ s .bearings)
+    unfolding buffersFit
+    lengths-measured =
+        let g = both-true (networkFits net) _ (lengths-fit _ (sym f ∙ q)) in
+        (network-fits net (g .0), eqb-true _ _ (both-true (eqb marks (s .bearings)) _ (g .1) .0))
 
-  pub submission-checked : (route limit work cameras out : ℕ) (x v y : Verdict) → x ≡ verdict (countTests s) → x ≡ Passed →
-      v ≡ verdict (lengthTests (networkFits net && buffersFit s route limit work cameras out)) → v ≡ Passed →
-      y ≡ verdict (networkRowTests net [] ++ routeTests route limit) → y ≡ submissionVerdict (submission net route limit work cameras out)
-  unfolding submissionTests
-  submission-checked route limit work cameras out x v y e p f q h = passes-in (countTests s) _ e p (passes-in (lengthTests _) _ f q h)
+    pub submission-checked : (x y : Verdict) → x ≡ verdict (countTests s) → x ≡ Passed → y ≡ verdict (networkRowTests net [] ++ routeTests route limit) →
+        y ≡ submissionVerdict (submission net marks route limit work cameras out)
+    unfolding submissionTests
+    submission-checked x y e p h = passes-in (countTests s) _ e p (passes-in (lengthTests _) _ f q h)
 
 -- 1 to 7 of the network are among a solve's tests
 pub network-passes : (i : Submission) → submissionVerdict i ≡ Passed → verdict (networkTests (i .net)) ≡ Passed
@@ -78,7 +81,7 @@ unfolding submissionTests networkTests
 network-passes i e =
     let s = i .net .shape in
     let a = stage-passed (countTests s) _ e in
-    let b = stage-passed (lengthTests (networkFits (i .net) && buffersFit s (i .route) (i .limit) (i .work) (i .cameras) (i .points))) _ (a .1) in
+    let b = stage-passed (lengthTests (lentFits i)) _ (a .1) in
     let f = both-true (networkFits (i .net)) _ (lengths-fit _ (b .0)) .0 in
     both-passed (countTests s) _ (a .0) (both-passed (lengthTests (networkFits (i .net))) _ (fit-lengths f) (stage-passed (networkRowTests (i .net) []) _ (b .1) .0))
 
@@ -94,10 +97,10 @@ submission-sound i v h p =
     let net = i .net in
     let s = net .shape in
     let a = stage-passed (countTests s) _ (sym h ∙ p) in
-    let b = stage-passed (lengthTests (networkFits net && buffersFit s (i .route) (i .limit) (i .work) (i .cameras) (i .points))) _ (a .1) in
+    let b = stage-passed (lengthTests (lentFits i)) _ (a .1) in
     let c = stage-passed (networkRowTests net []) _ (b .1) in
     let f = both-true (networkFits net) _ (lengths-fit _ (b .0)) in
-    let g = both-true _ _ (f .1) in
+    let g = both-true _ _ (both-true (eqb (i .marks) (s .bearings)) _ (f .1) .1) in
     let k = both-true _ _ (g .1) in
     record {
       checked = record {
@@ -297,11 +300,12 @@ pub clear-room : (net : Network) (route limit t : ℕ) (r : Answer) (work mid ca
     OutputsFilled net route limit r work mid cameras cameras' points points' → t ≡ workLength (net .shape) route limit → t ≤ length mid
 clear-room net route limit t r work mid cameras cameras' points points' C P e = rw (e, P .size) (C .room)
 
-module _ (i : Submission) (v : Verdict) (work cameras points : List Float) (e : v ≡ submissionVerdict i) where
+module _ (i : Submission) (v : Verdict) (marks marks' : List ℕ) (work cameras points : List Float) (e : v ≡ submissionVerdict i)
+    (m : marks' ≡ marksAfter (earlyVerdict i) (i .net .shape .bearings) marks) where
   abbrev T : ℕ
   T = workLength (i .net .shape) (i .route) (i .limit)
 
-  pub solve-rejected : (r : Refusal) → v ≡ Stops r → Solved i (Refused r) work work cameras cameras points points
+  pub solve-rejected : (r : Refusal) → v ≡ Stops r → Solved i (Refused r) marks marks' work work cameras cameras points points
   unfolding placement
   solve-rejected r h =
       let q : rejected r ≡ placement i = ap (λ (u : Verdict). checked u (routed (i .net) (i .route) (i .limit))) (sym h ∙ e) in
@@ -310,22 +314,24 @@ module _ (i : Submission) (v : Verdict) (work cameras points : List Float) (e : 
         camerasOut = ap (λ (y : Placement). camerasAfter y cameras) q;
         pointsOut = ap (λ (y : Placement). pointsAfter (i .net) y points) q;
         workOut = ap (λ (y : Placement). workAfter T y work) q;
+        marksOut = m;
         meaning = λ p f g. absurd (refused-not r p f);
       }
 
   pub solve-placed : (r : Answer) (t : ℕ) (mid work' cameras' points' : List Float) → v ≡ Passed → OutputsFilled (i .net) (i .route) (i .limit) r work mid cameras cameras' points points' →
-      t ≡ workLength (i .net .shape) (i .route) (i .limit) → work' ≡ replicate t null ++ drop t mid → Solved i r work work' cameras cameras' points points'
+      t ≡ workLength (i .net .shape) (i .route) (i .limit) → work' ≡ replicate t null ++ drop t mid → Solved i r marks marks' work work' cameras cameras' points points'
   unfolding placement problemBy
   solve-placed r t mid work' cameras' points' h P w z =
       let y = routed (i .net) (i .route) (i .limit) in
       let C = submission-sound i v e h .checked in
       let q : y ≡ placement i = ap (λ (u : Verdict). checked u y) (sym h ∙ e) in
-      let m : work' ≡ replicate T null ++ drop T mid = rw w at z in
+      let n : work' ≡ replicate T null ++ drop T mid = rw w at z in
       let s : replicate T null ++ drop T mid ≡ replicate T null ++ drop T work = ap (λ (u : List Float). replicate T null ++ u) (P .surplus) in
       record {
         answer = P .answer ∙ ap (answerOf (i .net)) q;
         camerasOut = P .camerasOut ∙ ap (λ (u : Placement). camerasAfter u cameras) q;
         pointsOut = P .pointsOut ∙ ap (λ (u : Placement). pointsAfter (i .net) u points) q;
-        workOut = m ∙ s ∙ sym (zeroed-routed (i .net) (i .route) (i .limit) (C .legal) T work) ∙ ap (λ (u : Placement). workAfter T u work) q;
+        workOut = n ∙ s ∙ sym (zeroed-routed (i .net) (i .route) (i .limit) (C .legal) T work) ∙ ap (λ (u : Placement). workAfter T u work) q;
+        marksOut = m;
         meaning = λ p f g. rw (P .camerasOut) (meant-routed (i .net) (C .sound) (i .route) (i .limit) (C .legal) cameras p (sym (P .answer) ∙ f) g);
       }

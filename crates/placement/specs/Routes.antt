@@ -9,7 +9,7 @@ use Rattle.network.specs.declared.Verdict.{Verdict}
 use Rattle.network.specs.declared.Verdict.the-variants.{Refused, Passed}
 use Rattle.network.specs.Network.{Network}
 use Rattle.network.specs.declared.Shape.{Shape}
-use Rattle.network.specs.Refusals.{verdict, countTests, lengthTests, networkFits, networkRowTests, routeTests}
+use Rattle.network.specs.Refusals.{verdict, countTests, lengthTests, earlyTests, networkFits, networkRowTests, routeTests}
 use Rattle.system.specs.System.{anchor}
 use Rattle.system.specs.Counts.{few}
 use Rattle.system.specs.Work.{workLength}
@@ -23,15 +23,16 @@ use Rattle.placement.specs.declared.Report.{Report}
 -- difference.
 pub record Submission : Type 0 where
   pub net : Network
+  pub marks : ℕ
   pub route : ℕ
   pub limit : ℕ
   pub work : ℕ
   pub cameras : ℕ
   pub points : ℕ
 
-abbrev pub submission : Network → ℕ → ℕ → ℕ → ℕ → ℕ → Submission
-submission net route limit work cameras points =
-    record { net = net; route = route; limit = limit; work = work; cameras = cameras; points = points }
+abbrev pub submission : Network → ℕ → ℕ → ℕ → ℕ → ℕ → ℕ → Submission
+submission net marks route limit work cameras points =
+    record { net = net; marks = marks; route = route; limit = limit; work = work; cameras = cameras; points = points }
 
 -- How a solve ends: rejected by 1 to 8; failed by 9, or 11 to 17; or with the answering route, its rounds and the cameras.
 pub data Placement : Type 0 where
@@ -79,22 +80,29 @@ routedBy d route limit x y =
 unfoldable pub routed : Network → ℕ → ℕ → Placement
 routed net route limit = routedBy (net .shape .cameras - 1) route limit (solution (problem net)) (denseSolution net)
 
--- 3 tests the outputs (3n and 3m numbers) and the work buffer (at least T)
-unfoldable pub buffersFit : Shape → ℕ → ℕ → ℕ → ℕ → ℕ → Bool
-buffersFit s route limit work cameras points =
-    eqb cameras (3 * s .cameras) && (eqb points (3 * s .points) && leb (workLength s route limit) work)
+-- 3 tests the marks (B numbers), the outputs (3n and 3m) and the work buffer (at least T)
+unfoldable pub buffersFit : Shape → ℕ → ℕ → ℕ → ℕ → ℕ → ℕ → Bool
+buffersFit s marks route limit work cameras points =
+    eqb marks (s .bearings) && (eqb cameras (3 * s .cameras) && (eqb points (3 * s .points) && leb (workLength s route limit) work))
+
+-- every slice that is lent has its length
+abbrev pub lentFits : Submission → Bool
+lentFits i =
+    networkFits (i .net) && buffersFit (i .net .shape) (i .marks) (i .route) (i .limit) (i .work) (i .cameras) (i .points)
 
 -- 1 and 2; 3, of the buffers too; 4 to 7; 8
 unfoldable pub submissionTests : Submission → List Verdict
 submissionTests i =
-    let net = i .net in
-    let s = net .shape in
-    countTests s
-    ++ (lengthTests (networkFits net && buffersFit s (i .route) (i .limit) (i .work) (i .cameras) (i .points))
-    ++ (networkRowTests net [] ++ routeTests (i .route) (i .limit)))
+    countTests (i .net .shape)
+    ++ (lengthTests (lentFits i)
+    ++ (networkRowTests (i .net) [] ++ routeTests (i .route) (i .limit)))
 
 abbrev pub submissionVerdict : Submission → Verdict
 submissionVerdict i = verdict (submissionTests i)
+
+-- of 1 to 5, which come before 6
+abbrev pub earlyVerdict : Submission → Verdict
+earlyVerdict i = verdict (earlyTests (i .net .shape) (lentFits i) (i .net .ends))
 
 abbrev pub checked : Verdict → Placement → Placement
 checked (Refused r) p = rejected r

@@ -7,6 +7,7 @@ use lib.Ieee.{Float}
 use Rattle.field.specs.Vec.{null}
 use Rattle.field.specs.Buffer.{flat, load, vector}
 use Rattle.network.specs.Network.{Network}
+use Rattle.network.specs.Refusals.{marksAfter}
 use Rattle.system.specs.Work.{workLength}
 use Rattle.recover.specs.Recover.{pointsOf}
 use Rattle.iterative.specs.Reduced.{problem}
@@ -14,7 +15,7 @@ use Rattle.iterative.specs.Accepted.{Accepted as Meaning}
 use Rattle.placement.specs.declared.Answer.{Answer}
 use Rattle.placement.specs.declared.Answer.the-variants.{Refused, Accepted}
 use Rattle.placement.specs.declared.Report.{Report}
-use Rattle.placement.specs.Routes.{Submission, Placement, rejected, failing, placed, placement, report}
+use Rattle.placement.specs.Routes.{Submission, Placement, rejected, failing, placed, placement, report, earlyVerdict}
 
 -- document 01's answer for each way in which a solve ends
 abbrev pub answerOf : Network → Placement → Answer
@@ -41,11 +42,13 @@ workAfter t (failing r) old = replicate t null ++ drop t old
 workAfter t (placed route rounds cameras) old = replicate t null ++ drop t old
 
 -- of the submission i, the answer r, and each lent buffer before and after
-pub record Solved (i : Submission) (r : Answer) (work work' cameras cameras' points points' : List Float) : Type 0 where
+pub record Solved (i : Submission) (r : Answer) (marks marks' : List ℕ) (work work' cameras cameras' points points' : List Float) : Type 0 where
   pub answer : r ≡ answerOf (i .net) (placement i)
   pub camerasOut : cameras' ≡ camerasAfter (placement i) cameras
   pub pointsOut : points' ≡ pointsAfter (i .net) (placement i) points
   pub workOut : work' ≡ workAfter (workLength (i .net .shape) (i .route) (i .limit)) (placement i) work
+  -- untouched where 1 to 5 refuse; else 6 has been tested, and all B are zero, whatever the answer
+  pub marksOut : marks' ≡ marksAfter (earlyVerdict i) (i .net .shape .bearings) marks
   -- Demand 3. Whatever network is submitted, whatever its numbers overflow to and whatever the lent buffers held: where the iterative
   -- part answered (a report p of route 2), the cameras that the output holds and the rounds that are reported are such that
   -- every camera coordinate is finite; the anchor is three positive zeros; the residual of each of x, y and z, worked out afresh from

@@ -11,14 +11,16 @@ use system::work::work_needed;
 ghost use mathlib.Core.Path.{_≡_};
 ghost use mathlib.Core.Bool.{_&&_};
 ghost use mathlib.Core.List.{[], _++_};
+ghost use lib.ListN.{length};
 ghost use Rattle.network.specs.Network.{network};
-ghost use Rattle.network.specs.Refusals.{lengthTests, networkFits, networkRowTests, routeTests, verdict};
+ghost use Rattle.network.specs.Refusals.{endTests, lengthTests, marksAfter, networkFits, networkRowTests, routeTests, verdict};
 ghost use Rattle.network.specs.inner.Sound.{NetworkLengths, ShapeSound};
-ghost use Rattle.placement.specs.Routes.{buffersFit, submission, submissionVerdict};
+ghost use Rattle.placement.specs.Routes.{buffersFit, earlyVerdict, submission, submissionVerdict};
 
-// 3: the lengths of the outputs and of the work buffer.
+// 3: the lengths of the marks, the outputs and the work buffer.
 fn buffers_fit(
     s: Shape,
+    marks: usize,
     route: usize,
     limit: usize,
     work: usize,
@@ -26,10 +28,11 @@ fn buffers_fit(
     placed: usize,
 ) -> bool
     requires { ⌜ ShapeSound s ⌝ }
-    ensures { λ r. ⌜ r ≡ buffersFit s route limit work cameras placed ⌝ }
+    ensures { λ r. ⌜ r ≡ buffersFit s marks route limit work cameras placed ⌝ }
 {
     let room = work_needed(s, route, limit) <= work;
-    both(cameras == 3 * s.cameras, both(placed == 3 * s.points, room))
+    let outputs = both(cameras == 3 * s.cameras, both(placed == 3 * s.points, room));
+    both(marks == s.bearings, outputs)
 }
 
 // 3, of every slice that the call is lent.
@@ -42,6 +45,7 @@ fn check_all_lengths(
     points: &[f64],
     offsets: &[usize],
     listed: &[usize],
+    marks: usize,
     route: usize,
     limit: usize,
     work: usize,
@@ -52,14 +56,14 @@ fn check_all_lengths(
     ensures { λ r. ⌜ r ≡ verdict (lengthTests (networkFits
         (network s (now (ends .entry)) (now (rays .entry)) (now (weights .entry)) (now (scales .entry)) (now (points .entry))
         (now (offsets .entry)) (now (listed .entry)))
-        && buffersFit s route limit work cameras placed)) ⌝ }
+        && buffersFit s marks route limit work cameras placed)) ⌝ }
 {
     let network_ok = network_fits(s, ends, rays, weights, scales, points, offsets, listed);
-    let buffers_ok = buffers_fit(s, route, limit, work, cameras, placed);
+    let buffers_ok = buffers_fit(s, marks, route, limit, work, cameras, placed);
     check_lengths(both(network_ok, buffers_ok))
 }
 
-// 4 to 8.
+// 4 to 8. Once 6 has been tested, the marks are all zero.
 fn check_rows(
     s: Shape,
     ends: &[usize],
@@ -69,24 +73,37 @@ fn check_rows(
     points: &[f64],
     offsets: &[usize],
     listed: &[usize],
+    marks: &mut [usize],
     route: usize,
     limit: usize,
 ) -> Verdict
     requires { ⌜ ShapeSound s ⌝ }
     requires { ⌜ NetworkLengths (network s (now ends) (now rays) (now weights) (now scales) (now points) (now offsets) (now listed)) ⌝ }
+    requires { ⌜ length (now marks) ≡ s .bearings ⌝ }
     ensures { λ r. ⌜ r ≡ verdict (networkRowTests
         (network s (now (ends .entry)) (now (rays .entry)) (now (weights .entry)) (now (scales .entry)) (now (points .entry))
         (now (offsets .entry)) (now (listed .entry)))
         [] ++ routeTests route limit) ⌝ }
+    ensures { λ _. ⌜ now (marks .exit) ≡ marksAfter (verdict (endTests s (now (ends .entry)))) (s .bearings) (now (marks .entry)) ⌝ }
 {
-    let rows = check_network_rows(s, ends, rays, weights, scales, points, offsets, listed);
+    let rows = check_network_rows(
+        s,
+        ends,
+        rays,
+        weights,
+        scales,
+        points,
+        offsets,
+        listed,
+        marks,
+    );
     if let Verdict::Refused(r) = rows {
         return Verdict::Refused(r);
     }
     check_route(route, limit)
 }
 
-// 1 to 8.
+// 1 to 8. Once 6 has been tested, the marks are all zero.
 pub(crate) fn check(
     s: Shape,
     ends: &[usize],
@@ -96,6 +113,7 @@ pub(crate) fn check(
     points: &[f64],
     offsets: &[usize],
     listed: &[usize],
+    marks: &mut [usize],
     route: usize,
     limit: usize,
     work: usize,
@@ -105,7 +123,11 @@ pub(crate) fn check(
     ensures { λ r. ⌜ r ≡ submissionVerdict (submission
         (network s (now (ends .entry)) (now (rays .entry)) (now (weights .entry)) (now (scales .entry)) (now (points .entry))
         (now (offsets .entry)) (now (listed .entry)))
-        route limit work cameras placed) ⌝ }
+        (length (now (marks .entry))) route limit work cameras placed) ⌝ }
+    ensures { λ _. ⌜ now (marks .exit) ≡ marksAfter (earlyVerdict (submission
+        (network s (now (ends .entry)) (now (rays .entry)) (now (weights .entry)) (now (scales .entry)) (now (points .entry))
+        (now (offsets .entry)) (now (listed .entry)))
+        (length (now (marks .entry))) route limit work cameras placed)) (s .bearings) (now (marks .entry)) ⌝ }
 {
     let counts = check_counts(s);
     if let Verdict::Refused(r) = counts {
@@ -120,6 +142,7 @@ pub(crate) fn check(
         points,
         offsets,
         listed,
+        marks.len(),
         route,
         limit,
         work,
@@ -138,6 +161,7 @@ pub(crate) fn check(
         points,
         offsets,
         listed,
+        marks,
         route,
         limit,
     )

@@ -180,7 +180,8 @@ fn place(
     answer
 }
 
-// The solve. Bad input is refused, and nothing is changed; otherwise the needed part of the work buffer ends all zero.
+// The solve. Bad input is refused, and nothing but the marks is changed; otherwise the needed part of the work buffer ends all zero. The marks end
+// all zero once 6 has been tested.
 pub fn solve(
     s: Shape,
     ends: &[usize],
@@ -190,6 +191,7 @@ pub fn solve(
     points: &[f64],
     offsets: &[usize],
     listed: &[usize],
+    marks: &mut [usize],
     route: usize,
     limit: usize,
     work: &mut [f64],
@@ -199,8 +201,9 @@ pub fn solve(
     ensures { λ r. ⌜ Solved (submission
         (network s (now (ends .entry)) (now (rays .entry)) (now (weights .entry)) (now (scales .entry)) (now (points .entry))
         (now (offsets .entry)) (now (listed .entry)))
-        route limit (length (now (work .entry))) (length (now (cameras .entry))) (length (now (placed .entry))))
-        r (now (work .entry)) (now (work .exit)) (now (cameras .entry)) (now (cameras .exit)) (now (placed .entry)) (now (placed .exit)) ⌝ }
+        (length (now (marks .entry))) route limit (length (now (work .entry))) (length (now (cameras .entry))) (length (now (placed .entry))))
+        r (now (marks .entry)) (now (marks .exit)) (now (work .entry)) (now (work .exit))
+        (now (cameras .entry)) (now (cameras .exit)) (now (placed .entry)) (now (placed .exit)) ⌝ }
 {
     let verdict = check(
         s,
@@ -211,6 +214,7 @@ pub fn solve(
         points,
         offsets,
         listed,
+        marks,
         route,
         limit,
         work.len(),

@@ -20,10 +20,10 @@ computing = tt
 pub scale-edges : ScaleEdges
 unfolding computing directed
 scale-edges = record {
-  ahead = (refl, λ y. record { answer = refl; output = refl });
-  behind = (refl, λ y. record { answer = refl; output = refl });
-  near = (refl, λ y. record { answer = refl; output = refl });
-  apart = (refl, λ y. record { answer = refl; output = refl });
+  ahead = (refl, λ y. record { answer = refl; output = refl; marksOut = refl });
+  behind = (refl, λ y. record { answer = refl; output = refl; marksOut = refl });
+  near = (refl, λ y. record { answer = refl; output = refl; marksOut = refl });
+  apart = (refl, λ y. record { answer = refl; output = refl; marksOut = refl });
 }
 
 -- camera 0 at the origin sees point 0 along (0,0,1) with this weight and scale, and the point comes out as (x, y, z)

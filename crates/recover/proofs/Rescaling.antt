@@ -1,19 +1,20 @@
 -- Scales: the new scales as they are stored, and that every row's is. Assumes nothing.
-use Prim.Native.Nat.{ℕ, zero, suc, _+_, _≤_, _<_}
+use Prim.Native.Nat.{ℕ, _+_, _≤_, _<_}
 use mathlib.Core.Path.{_≡_, refl, sym, _∙_}
 use mathlib.Core.List.{List}
 use mathlib.Core.Bool.{Bool, true, false, cond}
 use native.Mathlib.Omega.{arith}
-use lib.Dec.{eqb, ltb}
+use lib.Dec.{ltb}
 use lib.ListN.{length, getD, set}
 use lib.Ieee.{Float, nan, lt}
-use borrow.Author.Tests.{lt-ltb, le-ltb, ltb-true, ltb-false, eqb-true}
+use borrow.Author.Tests.{lt-ltb, le-ltb, ltb-true, ltb-false}
 use Rattle.field.specs.declared.Vec3.{Vec3}
 use Rattle.network.specs.declared.Shape.{Shape}
 use Rattle.network.specs.declared.Span.{Span}
 use Rattle.network.specs.Network.{Network, network, links, rows, isBearing, spanOf}
 use Rattle.network.specs.Lists.{named}
 use Rattle.network.specs.inner.Sound.{LinksSound}
+use Rattle.network.proofs.PointLists.{named-some}
 use Rattle.system.specs.System.{tiny, effectiveIn, weightSum, sumsFrom}
 use Rattle.recover.specs.Recover.{directionKept, keptByWeight, newScaleIn, newScale, scalesOf}
 use Rattle.recover.specs.inner.Order.{listedRow, ownRow, storedAt, directionScale}
@@ -36,16 +37,9 @@ directions-more s ends rays weights scales points cs i keeps l w w' e h t =
 -- ---- of a network that was not refused
 
 -- a row that is named is named somewhere
-named-place : (listed : List ℕ) (r n k : ℕ) → named listed r n ≡ suc k → Hit (listedRow listed) n r
-unfolding named listedRow
-named-place listed r zero k e = absurd (omega arith)
-named-place listed r (suc n) k e = go (named-place listed r n k) (eqb (getD listed n 0) r) refl e
-  where
-    go : (named listed r n ≡ suc k → Hit (listedRow listed) n r) → (t : Bool) → eqb (getD listed n 0) r ≡ t → named listed r n + cond t 1 0 ≡ suc k → Hit (listedRow listed) (suc n) r
-    go ih true q e = record { place = n; below = omega arith; is = eqb-true _ _ q }
-    go ih false q e =
-        let h = ih (omega arith) in
-        record { place = h .place; below = omega (arith, h .below); is = h .is }
+named-place : (listed : List ℕ) (r n : ℕ) → named listed r n ≡ 1 → Hit (listedRow listed) n r
+unfolding listedRow
+named-place listed r n e = let u = named-some listed r n (omega arith) in record { place = u .0; below = u .1; is = u .2 }
 
 module _ (s : Shape) (ends : List ℕ) (rays weights scales points : List Float) (offsets listed : List ℕ) (cs : List Vec3) where
   abbrev net : Network
@@ -111,7 +105,7 @@ module _ (s : Shape) (ends : List ℕ) (rays weights scales points : List Float)
       where
         go : (t : Bool) → ltb r (s .bearings) ≡ t → Hit rowAtPlace (rows s) r
         go true e =
-            let t = named-place listed r (s .bearings) 0 (L .once r (ltb-true _ _ e)) in
+            let t = named-place listed r (s .bearings) (L .once r (ltb-true _ _ e)) in
             record { place = t .place; below = omega (arith, t .below); is = sym (at-bearing (t .place) (t .below)) ∙ t .is }
         go false e = record { place = r; below = h; is = sym (at-direction r (ltb-false _ _ e)) }
 

@@ -19,13 +19,13 @@ bits b = ofBits binary64 b
 
 -- 'Scales, cameras (0,0,0) and target, direction (1,0,0), weight 1': target (x,0,0), old scale 1. The trial cameras, all zero, are not marked.
 abbrev pub baselineCase : Float → PlacedNetwork
-baselineCase x = placed (directed one one) (null ∷ null ∷ null ∷ x ∷ null ∷ null ∷ []) (null ∷ null ∷ null ∷ null ∷ null ∷ null ∷ []) false 1
+baselineCase x = placed (directed one one) 0 (null ∷ null ∷ null ∷ x ∷ null ∷ null ∷ []) (null ∷ null ∷ null ∷ null ∷ null ∷ null ∷ []) false 1
 
--- the direction's answer is a, and a call that is lent one number is refused nothing and leaves that answer's number there
+-- the direction's answer is a, and a call that is lent no marks and one number is refused nothing and leaves that answer's number there
 abbrev pub GivesScale : Float → Scale → Type 0
 GivesScale x a =
     let i = baselineCase x in
-    (scaleAnswer (i .net) (camerasOf i) 0 ≡ a) × ((y : Float) → ScalesFilled i Passed (y ∷ []) (scaleNumber one a ∷ []))
+    (scaleAnswer (i .net) (camerasOf i) 0 ≡ a) × ((y : Float) → ScalesFilled i Passed [] [] (y ∷ []) (scaleNumber one a ∷ []))
 
 -- 'target x = 2 gives 0.5; -2 gives 1e-5; 2^-20 keeps; 2^-19 gives 524288'
 pub record ScaleEdges : Type 0 where

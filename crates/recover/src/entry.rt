@@ -11,20 +11,22 @@ use network::lengths::vectors_fit;
 ghost use mathlib.Core.Path.{_≡_};
 ghost use mathlib.Core.Bool.{_&&_};
 ghost use Rattle.network.specs.Network.{network};
-ghost use Rattle.network.specs.Refusals.{verdict, lengthTests, networkFits};
+ghost use lib.ListN.{length};
+ghost use Rattle.network.specs.Refusals.{verdict, lengthTests, networkFits, marksAfter};
 ghost use Rattle.network.specs.inner.Sound.{ShapeSound};
-ghost use Rattle.recover.specs.Contracts.{placed, buffersFit, placedVerdict};
+ghost use Rattle.recover.specs.Contracts.{placed, buffersFit, earlyVerdict, placedVerdict};
 
-// Both camera buffers and the output have their lengths.
-fn buffers_fit(s: Shape, current: &[f64], trial: &[f64], room: usize) -> bool
+// The mark buffer, both camera buffers and the output have their lengths.
+fn buffers_fit(s: Shape, marks: usize, current: &[f64], trial: &[f64], room: usize) -> bool
     requires { ⌜ ShapeSound s ⌝ }
-    ensures { λ r. ⌜ r ≡ buffersFit s (now (current .entry)) (now (trial .entry)) room ⌝ }
+    ensures { λ r. ⌜ r ≡ buffersFit s marks (now (current .entry)) (now (trial .entry)) room ⌝ }
 {
     let current_fits = vectors_fit(s.cameras, current);
     let trial_fits = vectors_fit(s.cameras, trial);
+    let room_fits = room == s.bearings + s.directions;
     both(
-        current_fits,
-        both(trial_fits, room == s.bearings + s.directions),
+        marks == s.bearings,
+        both(current_fits, both(trial_fits, room_fits)),
     )
 }
 
@@ -38,6 +40,7 @@ fn check_all_lengths(
     points: &[f64],
     offsets: &[usize],
     listed: &[usize],
+    marks: usize,
     current: &[f64],
     trial: &[f64],
     room: usize,
@@ -46,14 +49,14 @@ fn check_all_lengths(
     ensures { λ r. ⌜ r ≡ verdict (lengthTests (networkFits
         (network s (now (ends .entry)) (now (rays .entry)) (now (weights .entry)) (now (scales .entry)) (now (points .entry))
         (now (offsets .entry)) (now (listed .entry)))
-        && buffersFit s (now (current .entry)) (now (trial .entry)) room)) ⌝ }
+        && buffersFit s marks (now (current .entry)) (now (trial .entry)) room)) ⌝ }
 {
     let network_ok = network_fits(s, ends, rays, weights, scales, points, offsets, listed);
-    let buffers_ok = buffers_fit(s, current, trial, room);
+    let buffers_ok = buffers_fit(s, marks, current, trial, room);
     check_lengths(both(network_ok, buffers_ok))
 }
 
-// 1 to 7; 7 tests the marked cameras after the points.
+// 1 to 7; 7 tests the marked cameras after the points. Once 6 has been tested, the marks are all zero.
 pub(crate) fn check<'a>(
     s: Shape,
     ends: &[usize],
@@ -63,6 +66,7 @@ pub(crate) fn check<'a>(
     points: &[f64],
     offsets: &[usize],
     listed: &[usize],
+    marks: &mut [usize],
     current: &'a [f64],
     trial: &'a [f64],
     mark: bool,
@@ -71,7 +75,11 @@ pub(crate) fn check<'a>(
     ensures { λ r. ⌜ r ≡ placedVerdict (placed
         (network s (now (ends .entry)) (now (rays .entry)) (now (weights .entry)) (now (scales .entry)) (now (points .entry))
         (now (offsets .entry)) (now (listed .entry)))
-        (now (current .entry)) (now (trial .entry)) mark room) ⌝ }
+        (length (now (marks .entry))) (now (current .entry)) (now (trial .entry)) mark room) ⌝ }
+    ensures { λ _. ⌜ now (marks .exit) ≡ marksAfter (earlyVerdict (placed
+        (network s (now (ends .entry)) (now (rays .entry)) (now (weights .entry)) (now (scales .entry)) (now (points .entry))
+        (now (offsets .entry)) (now (listed .entry)))
+        (length (now (marks .entry))) (now (current .entry)) (now (trial .entry)) mark room)) (s .bearings) (now (marks .entry)) ⌝ }
 {
     let counts = check_counts(s);
     if let Verdict::Refused(r) = counts {
@@ -86,6 +94,7 @@ pub(crate) fn check<'a>(
         points,
         offsets,
         listed,
+        marks.len(),
         current,
         trial,
         room,
@@ -103,6 +112,7 @@ pub(crate) fn check<'a>(
         points,
         offsets,
         listed,
+        marks,
         cameras,
     )
 }

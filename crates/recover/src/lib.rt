@@ -115,6 +115,7 @@ pub fn dots<'a>(
     points: &[f64],
     offsets: &[usize],
     listed: &[usize],
+    marks: &mut [usize],
     current: &'a [f64],
     trial: &'a [f64],
     mark: bool,
@@ -123,7 +124,8 @@ pub fn dots<'a>(
     ensures { λ r. ⌜ DotsFilled (placed
         (network s (now (ends .entry)) (now (rays .entry)) (now (weights .entry)) (now (scales .entry)) (now (points .entry))
         (now (offsets .entry)) (now (listed .entry)))
-        (now (current .entry)) (now (trial .entry)) mark (length (now (out .entry)))) r (now (out .entry)) (now (out .exit)) ⌝ }
+        (length (now (marks .entry))) (now (current .entry)) (now (trial .entry)) mark (length (now (out .entry))))
+        r (now (marks .entry)) (now (marks .exit)) (now (out .entry)) (now (out .exit)) ⌝ }
 {
     let room = out.len();
     let verdict = check(
@@ -135,6 +137,7 @@ pub fn dots<'a>(
         points,
         offsets,
         listed,
+        marks,
         current,
         trial,
         mark,
@@ -166,6 +169,7 @@ pub fn scales<'a>(
     points: &[f64],
     offsets: &[usize],
     listed: &[usize],
+    marks: &mut [usize],
     current: &'a [f64],
     trial: &'a [f64],
     mark: bool,
@@ -174,7 +178,8 @@ pub fn scales<'a>(
     ensures { λ r. ⌜ ScalesFilled (placed
         (network s (now (ends .entry)) (now (rays .entry)) (now (weights .entry)) (now (scales .entry)) (now (points .entry))
         (now (offsets .entry)) (now (listed .entry)))
-        (now (current .entry)) (now (trial .entry)) mark (length (now (out .entry)))) r (now (out .entry)) (now (out .exit)) ⌝ }
+        (length (now (marks .entry))) (now (current .entry)) (now (trial .entry)) mark (length (now (out .entry))))
+        r (now (marks .entry)) (now (marks .exit)) (now (out .entry)) (now (out .exit)) ⌝ }
 {
     let room = out.len();
     let verdict = check(
@@ -186,6 +191,7 @@ pub fn scales<'a>(
         points,
         offsets,
         listed,
+        marks,
         current,
         trial,
         mark,

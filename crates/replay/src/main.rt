@@ -30,6 +30,9 @@ const JUNK: f64 = 1.5e300;
 
 const CANARY: f64 = -7.25;
 
+// What the mark buffers hold before a call.
+const MARK: usize = 9;
+
 // The counts of a case and what is asked of the solve.
 struct Case {
     number: usize,
@@ -252,6 +255,7 @@ fn solve_into(
     p: Layout,
     wholes: &[usize],
     reals: &[f64],
+    marks: &mut [usize],
     work: &mut [f64],
     cameras: &mut [f64],
     placed: &mut [f64],
@@ -268,6 +272,10 @@ fn solve_into(
     if placed.len() < q {
         return unsolved();
     }
+    let b = span(p.offsets, p.listed);
+    if marks.len() < b {
+        return unsolved();
+    }
     placement::solve(
         case.shape,
         some_wholes(wholes, 0, p.ends),
@@ -277,6 +285,7 @@ fn solve_into(
         some_reals(reals, p.scales, p.points),
         some_wholes(wholes, p.ends, p.offsets),
         some_wholes(wholes, p.offsets, p.listed),
+        &mut marks[0..b],
         case.route,
         case.limit,
         &mut work[0..t],
@@ -332,6 +341,19 @@ fn all_are(numbers: &[f64], bits: u64) -> bool {
     let mut i = 0usize;
     while i < numbers.len() {
         if double::to_bits(numbers[i]) != bits {
+            return false;
+        }
+        i += 1;
+    }
+    true
+}
+
+// The first `count` marks are zero, and the others untouched.
+fn unmarked(marks: &[usize], count: usize) -> bool {
+    let mut i = 0usize;
+    while i < marks.len() {
+        let wanted = if i < count { 0 } else { MARK };
+        if marks[i] != wanted {
             return false;
         }
         i += 1;
@@ -434,12 +456,27 @@ fn check_solve(
     at: usize,
     tally: &mut [usize],
 ) -> Found {
+    let mut marks = [MARK; 64];
     let mut work = [JUNK; 8194];
     let mut cameras = [CANARY; 192];
     let mut placed = [CANARY; 192];
-    let answer = solve_into(case, p, wholes, reals, &mut work, &mut cameras, &mut placed);
+    let answer = solve_into(
+        case,
+        p,
+        wholes,
+        reals,
+        &mut marks,
+        &mut work,
+        &mut cameras,
+        &mut placed,
+    );
     count_at(tally, class(answer));
-    compare_solve(case, p, answer, &work, &cameras, &placed, input, at)
+    let clean = unmarked(&marks, span(p.offsets, p.listed));
+    let found = compare_solve(case, p, answer, &work, &cameras, &placed, input, at);
+    Found {
+        next: found.next,
+        same: both(judge(case.number, b"marks", clean), found.same),
+    }
 }
 
 // How many numbers of an output are filled, or LOST of a refusal.
@@ -457,6 +494,7 @@ fn dots_into<'a>(
     wholes: &[usize],
     reals: &'a [f64],
     trial: &'a [f64],
+    marks: &mut [usize],
     out: &mut [f64],
 ) -> usize {
     let current = some_reals(reals, p.points, p.positions);
@@ -469,6 +507,7 @@ fn dots_into<'a>(
         some_reals(reals, p.scales, p.points),
         some_wholes(wholes, p.ends, p.offsets),
         some_wholes(wholes, p.offsets, p.listed),
+        marks,
         current,
         trial,
         false,
@@ -484,6 +523,7 @@ fn scales_into<'a>(
     wholes: &[usize],
     reals: &'a [f64],
     trial: &'a [f64],
+    marks: &mut [usize],
     out: &mut [f64],
 ) -> usize {
     let current = some_reals(reals, p.points, p.positions);
@@ -496,6 +536,7 @@ fn scales_into<'a>(
         some_reals(reals, p.scales, p.points),
         some_wholes(wholes, p.ends, p.offsets),
         some_wholes(wholes, p.offsets, p.listed),
+        marks,
         current,
         trial,
         false,
@@ -512,20 +553,28 @@ fn rows_into<'a>(
     reals: &'a [f64],
     trial: &'a [f64],
     renew: bool,
+    marks: &mut [usize],
     out: &mut [f64],
 ) -> usize {
     let size = span(p.points, p.positions);
     let k = span(p.rays, p.weights);
+    let b = span(p.offsets, p.listed);
     if trial.len() < size {
         return LOST;
     }
     if out.len() < k {
         return LOST;
     }
+    if marks.len() < b {
+        return LOST;
+    }
+    let others = &trial[0..size];
+    let marked = &mut marks[0..b];
+    let filled = &mut out[0..k];
     if renew {
-        scales_into(case, p, wholes, reals, &trial[0..size], &mut out[0..k])
+        scales_into(case, p, wholes, reals, others, marked, filled)
     } else {
-        dots_into(case, p, wholes, reals, &trial[0..size], &mut out[0..k])
+        dots_into(case, p, wholes, reals, others, marked, filled)
     }
 }
 
@@ -540,12 +589,18 @@ fn check_rows(
     at: usize,
 ) -> Found {
     let trial = [CANARY; 192];
+    let mut marks = [MARK; 64];
     let mut out = [CANARY; 128];
-    let count = rows_into(case, p, wholes, reals, &trial, renew, &mut out);
-    if renew {
+    let count = rows_into(case, p, wholes, reals, &trial, renew, &mut marks, &mut out);
+    let clean = unmarked(&marks, span(p.offsets, p.listed));
+    let found = if renew {
         compare_output(case.number, b"renewed", &out, count, input, at)
     } else {
         compare_output(case.number, b"dots", &out, count, input, at)
+    };
+    Found {
+        next: found.next,
+        same: both(judge(case.number, b"marks", clean), found.same),
     }
 }
 

@@ -52,9 +52,10 @@ pub record Listed (s : Shape) (ends offsets listed : List ℕ) : Type 0 where
   pub starts : offsets ≡ offsetsOf ends (s .bearings) (s .points)
   pub rows : listed ≡ listedOf ends (s .bearings) (s .points)
 
--- the buffers of a solve: the work buffer has room, and the outputs have the lengths that the counts say
-pub record BuffersSized (s : Shape) (l cs ps : List Float) : Type 0 where
+-- the buffers of a solve: the work buffer has room, and the marks and outputs have the lengths that the counts say
+pub record BuffersSized (s : Shape) (ms : List ℕ) (l cs ps : List Float) : Type 0 where
   pub small : Small s
+  pub marks : length ms ≡ s .bearings
   pub work : length l ≡ 7044
   pub cameras : length cs ≡ 3 * s .cameras
   pub points : length ps ≡ 3 * s .points

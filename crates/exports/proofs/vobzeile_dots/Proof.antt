@@ -18,4 +18,5 @@ vobzeile-dots-spec =
     (λ c κs. search needs)
     (λ c. search needs)
     (λ c. search needs)
+    (λ c. search needs)
     (λ c. search dots-done))

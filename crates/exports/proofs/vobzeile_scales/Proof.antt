@@ -18,4 +18,5 @@ vobzeile-scales-spec =
     (λ c κs. search needs)
     (λ c. search needs)
     (λ c. search needs)
+    (λ c. search needs)
     (λ c. search scales-done))

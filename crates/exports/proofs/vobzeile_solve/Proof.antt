@@ -19,4 +19,5 @@ vobzeile-solve-spec =
     (λ c. search needs)
     (λ c. search needs)
     (λ c. search needs)
+    (λ c. search needs)
     (λ c. search solve-done))

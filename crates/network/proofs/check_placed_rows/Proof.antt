@@ -1,4 +1,3 @@
-use native.Mathlib.Omega.{arith}
 use Rattle.network.proofs.Verdicts.{halts-in, passes-in}
 use Rattle.network.specs.Refusals.{networkRowTests}
 use borrow.Author.Needs.{needs}
@@ -10,13 +9,11 @@ unfolding networkRowTests
 check-placed-rows-spec =
     tie.close
     (tie.spec
-    (λ c κs. omega arith)
+    (λ c κs. search needs)
     (λ c. search needs)
-    (λ c. search halts-in)
     (λ c. search needs)
-    (λ c κs. omega arith)
-    (λ c. search needs)
-    (λ c. search (passes-in, halts-in))
+    (λ c. (search halts-in, search needs))
     (λ c. search needs)
     (λ c κs. search needs)
-    (λ c. search passes-in))
+    (λ c. search needs)
+    (λ c. (search passes-in, search needs)))

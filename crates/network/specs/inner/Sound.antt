@@ -58,15 +58,13 @@ pub record ListedSound (b : ℕ) (listed : List ℕ) : Type 0 where
   pub size : length listed ≡ b
   pub bearing : (k : ℕ) → k < b → getD listed k 0 < b
 
--- 4 to 6: each bearing is named once, under its own point, ascending within a point
+-- 4 to 6: each bearing is named once, under its own point
 pub record LinksSound (L : Links) : Type 0 where
   pub ends : EndsSound (L .shape) (L .ends)
   pub offsets : OffsetsSound (L .shape .points) (L .shape .bearings) (L .offsets)
   pub listed : ListedSound (L .shape .bearings) (L .listed)
   pub own : (p k : ℕ) → p < L .shape .points → getD (L .offsets) p 0 ≤ k → k < getD (L .offsets) (p + 1) 0 →
       secondEnd (L .ends) (getD (L .listed) k 0) ≡ p
-  pub ascends : (p k : ℕ) → p < L .shape .points → getD (L .offsets) p 0 ≤ k → k + 1 < getD (L .offsets) (p + 1) 0 →
-      getD (L .listed) k 0 < getD (L .listed) (k + 1) 0
   pub once : (r : ℕ) → r < L .shape .bearings → named (L .listed) r (L .shape .bearings) ≡ 1
 
 -- a graph call's tests

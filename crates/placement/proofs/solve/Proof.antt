@@ -9,25 +9,20 @@ solve-spec =
     (tie.spec
     (λ c κs. search needs)
     (λ c. search needs)
+    (λ c. search needs)
     (λ c. search solve-rejected)
     (λ c. search needs)
     (λ c κs.
-    let k = c .before .before .before in
-    let S = submission-sound _ _ (k .before .before .check .ensures) (k .enum-told .given .1) in
+    let S = submission-sound _ _ (c .before .before .before .before .before .before .before .check .ensures .0) (c .before .before .before .enum-told .given .1) in
     (S .checked, (S .cameras, S .points)))
+    (λ c κs. submission-sound _ _ (c .before .before .before .before .before .before .before .before .before .before .before .before .before .before .before .check .ensures .0) (c .before .before .before .before .before .before .before .before .before .before .before .enum-told .given .1) .checked .sound .links .ends .shape)
     (λ c κs.
-    let k = c .before .before .before .before .before .before .before .before .before .before .before in
-    submission-sound _ _ (k .before .before .check .ensures) (k .enum-told .given .1) .checked .sound .links .ends .shape)
-    (λ c κs.
-    let h = c .before .before .before .before .before .before .before .before in
-    let k = h .before .before .before .before in
-    let S = submission-sound _ _ (k .before .before .check .ensures) (k .enum-told .given .1) in
-    clear-room _ _ _ _ _ _ _ _ _ _ _ (S .checked) (h .place .ensures) (c .work-needed .ensures))
+    let S = submission-sound _ _ (c .before .before .before .before .before .before .before .before .before .before .before .before .before .before .before .before .check .ensures .0) (c .before .before .before .before .before .before .before .before .before .before .before .before .enum-told .given .1) in
+    clear-room _ _ _ _ _ _ _ _ _ _ _ (S .checked) (c .before .before .before .before .before .before .before .before .place .ensures) (c .work-needed .ensures))
+    (λ c. search needs)
     (λ c. search needs)
     (λ c. search needs)
     (λ c. search needs)
     (λ c.
-    let f = c .before .before in
-    let h = f .before .before .before .before .before .before .before .before .before in
-    let k = h .before .before .before .before in
-    solve-placed _ _ _ _ _ (k .before .before .check .ensures) _ _ _ _ _ _ (k .enum-told .given .1) (h .place .ensures) (f .before .work-needed .ensures) (f .clear .ensures)))
+    let k = c .before .before .before .before .before .before .before .before .before .before .before .before .before .before .before .before .before .before .before .check .ensures in
+    solve-placed _ _ _ _ _ _ _ (k .0) (k .1) _ _ _ _ _ _ (c .before .before .before .before .before .before .before .before .before .before .before .before .before .before .before .enum-told .given .1) (c .before .before .before .before .before .before .before .before .before .before .before .place .ensures) (c .before .before .before .work-needed .ensures) (c .before .before .clear .ensures)))

@@ -1,4 +1,5 @@
-use Rattle.recover.proofs.Entries.{left-refused, may-read-ends, may-read-positions, may-read-rays, may-store, dots-left}
+use mathlib.Core.Path.{refl, _∙_}
+use Rattle.recover.proofs.Entries.{dots-ready, left-filled, left-refused, may-fill}
 use borrow.Author.Needs.{needs}
 use Rattle.recover.proofs.dots.Statement.{statement}
 use Rattle.recover.proofs.dots.Tie as tie
@@ -11,7 +12,11 @@ dots-spec =
     (λ c. search needs)
     (λ c. search needs)
     (λ c κs. search needs)
-    (λ c κs. (search may-read-ends, (search may-read-positions, (search may-read-rays, search may-store))))
+    (λ c κs. dots-ready _ _ (c .before .before .before .before .before .before .before .before .before .before .before .before .before .before .before .before .before .before .before .args .out .now) (may-fill _ _ (c .before .before .before .before .before .before .check .ensures .0) _ _ (c .before .before .enum-told .given .1) refl (c .before .marked-buffer .ensures)))
+    (λ c. search needs)
     (λ c. search left-refused)
     (λ c. search needs)
-    (λ c. search dots-left))
+    (λ c. search needs)
+    (λ c.
+    let k = c .before .before .before .before .before .before .before .before .before .check .ensures in
+    left-filled _ _ (k .0) (k .1) _ _ (c .before .before .before .before .before .enum-told .given .1) (c .before .before .fill-dots .ensures ∙ rw (c .before .before .before .before .marked-buffer .ensures))))

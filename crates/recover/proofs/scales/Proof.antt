@@ -1,4 +1,5 @@
-use Rattle.recover.proofs.Entries.{left-refused, may-fill, scales-left}
+use mathlib.Core.Path.{refl, _∙_}
+use Rattle.recover.proofs.Entries.{left-filled, left-refused, may-fill}
 use borrow.Author.Needs.{needs}
 use Rattle.recover.proofs.scales.Statement.{statement}
 use Rattle.recover.proofs.scales.Tie as tie
@@ -11,7 +12,11 @@ scales-spec =
     (λ c. search needs)
     (λ c. search needs)
     (λ c κs. search needs)
-    (λ c κs. search may-fill)
+    (λ c κs. may-fill _ _ (c .before .before .before .before .before .before .check .ensures .0) _ _ (c .before .before .enum-told .given .1) refl (c .before .marked-buffer .ensures))
+    (λ c. search needs)
     (λ c. search left-refused)
     (λ c. search needs)
-    (λ c. search scales-left))
+    (λ c. search needs)
+    (λ c.
+    let k = c .before .before .before .before .before .before .before .before .before .check .ensures in
+    left-filled _ _ (k .0) (k .1) _ _ (c .before .before .before .before .before .enum-told .given .1) (c .before .before .fill-scales .ensures ∙ rw (c .before .before .before .before .marked-buffer .ensures))))

@@ -13,4 +13,5 @@ place-spec =
     (λ c. search needs)
     (λ c. search needs)
     (λ c. search needs)
+    (λ c. search needs)
     (λ c. search solved-printed))

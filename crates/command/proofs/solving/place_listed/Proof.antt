@@ -12,12 +12,20 @@ place-listed-spec =
     (λ c. search needs)
     (λ c. search needs)
     (λ c. search needs)
+    (λ c. sym (length-take-le _ _ (omega arith)))
+    (λ c. search needs)
     (λ c. search needs)
     (λ c. sym (length-take-le _ _ (omega arith)))
     (λ c. search needs)
     (λ c. sym (length-take-le _ _ (omega arith)))
     (λ c κs. (
-      record { small = search needs; work = search needs; cameras = length-take-le _ _ (omega arith); points = length-take-le _ _ (omega arith) },
+      record {
+        small = search needs;
+        marks = length-take-le _ _ (omega arith);
+        work = search needs;
+        cameras = length-take-le _ _ (omega arith);
+        points = length-take-le _ _ (omega arith);
+      },
       search needs,
     ))
     (λ c. search needs))

@@ -14,4 +14,11 @@ solve-listed-spec =
     (λ c. search needs)
     (λ c. search needs)
     (λ c. search needs)
-    (λ c. record { solved = search (solved, arith); cameras = omega arith; points = omega arith }))
+    (λ c. search needs)
+    (λ c.
+    let B = c .before .before .before .before .before .before .before .before .before .before .before .before .before .before .before .before .before .before .before .before .before .before .before .before .before .pre .0 in
+    record {
+      solved = search (solved, arith);
+      cameras = omega (arith, B .small .cameras, B .cameras);
+      points = omega (arith, B .small .points, B .points);
+    }))

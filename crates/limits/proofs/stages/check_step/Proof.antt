@@ -1,3 +1,5 @@
+use mathlib.Core.Path.{refl}
+use borrow.Author.Tests.{eqb-true}
 use Rattle.network.proofs.Sound.{counted, measured, network-fits}
 use borrow.Author.Needs.{needs}
 use Rattle.limits.proofs.stages.check_step.Statement.{statement}
@@ -16,5 +18,16 @@ check-step-spec =
     (λ c. search needs)
     (λ c. search needs)
     (λ c. search needs)
-    (λ c κs. (search counted, search (network-fits, measured)))
+    (λ c κs. search needs)
+    (λ c. search needs)
+    (λ c. search needs)
+    (λ c. search needs)
+    (λ c κs. (
+      search counted,
+      (
+        network-fits _ (measured (c .before .before .before .before .before .before .before .check-lengths .ensures) (c .before .before .before .before .before .enum-told2 .given .1) (c .before .before .before .before .before .before .before .before .network-fits .ensures)),
+        eqb-true _ _ (measured (c .before .before .before .check-lengths2 .ensures) (c .before .enum-told3 .given .1) refl),
+      ),
+    ))
+    (λ c. search needs)
     (λ c. search needs))

@@ -1,3 +1,4 @@
+use Rattle.network.proofs.Marking.{marks-cleared}
 use Rattle.network.proofs.Verdicts.{last, test-not-is}
 use Rattle.network.specs.Refusals.{listTests}
 use borrow.Author.Needs.{needs}
@@ -11,4 +12,6 @@ check-lists-spec =
     (tie.spec
     (λ c κs. search needs)
     (λ c κs. search needs)
-    (λ c. search (last, test-not-is)))
+    (λ c κs. search needs)
+    (λ c. search needs)
+    (λ c. (search (last, test-not-is), search marks-cleared)))

@@ -12,4 +12,5 @@ buffers-fit-spec =
     (λ c. search needs)
     (λ c κs. search needs)
     (λ c κs. search needs)
+    (λ c κs. search needs)
     (λ c. search buffers-are))

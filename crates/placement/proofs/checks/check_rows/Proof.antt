@@ -9,7 +9,9 @@ check-rows-spec =
     (tie.spec
     (λ c κs. search needs)
     (λ c. search needs)
-    (λ c. search halts-in)
+    (λ c. search needs)
+    (λ c. (search halts-in, search needs))
     (λ c. search needs)
     (λ c κs. search needs)
-    (λ c. search passes-in))
+    (λ c. search needs)
+    (λ c. (search passes-in, search needs)))

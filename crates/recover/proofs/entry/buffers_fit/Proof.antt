@@ -14,4 +14,5 @@ buffers-fit-spec =
     (λ c. search needs)
     (λ c κs. search needs)
     (λ c κs. search needs)
+    (λ c κs. search needs)
     (λ c. search and-is))

@@ -1,7 +1,7 @@
 use Rattle.recover.specs.Contracts.{placedTests}
 use Rattle.network.proofs.Verdicts.{halts-in, passes-in}
-use Rattle.network.proofs.Sound.{counted}
-use Rattle.recover.proofs.Entries.{network-measured, cameras-measured, placed-checked}
+use Rattle.network.proofs.Sound.{counted, kept-by-counts, kept-by-lengths, left-by-rows}
+use Rattle.recover.proofs.Entries.{lengths-measured, placed-checked}
 use borrow.Author.Needs.{needs}
 use Rattle.recover.proofs.entry.check.Statement.{statement}
 use Rattle.recover.proofs.entry.check.Tie as tie
@@ -13,12 +13,16 @@ check-spec =
     (tie.spec
     (λ c κs. search needs)
     (λ c. search needs)
-    (λ c. search halts-in)
+    (λ c. (search halts-in, search kept-by-counts))
     (λ c. search needs)
     (λ c κs. search counted)
     (λ c. search needs)
-    (λ c. search (passes-in, halts-in))
+    (λ c. (search (passes-in, halts-in), search kept-by-lengths))
     (λ c. search needs)
     (λ c κs. search needs)
-    (λ c κs. (search counted, (search network-measured, search cameras-measured)))
-    (λ c. search placed-checked))
+    (λ c κs. (
+      search counted,
+      lengths-measured _ _ _ _ _ _ _ _ _ _ _ _ _ _ _ (c .before .before .before .before .check-all-lengths .ensures) (c .before .before .enum-told2 .given .1) (c .before .marked-buffer .ensures),
+    ))
+    (λ c. search needs)
+    (λ c. (search placed-checked, search left-by-rows)))
