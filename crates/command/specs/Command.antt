@@ -59,7 +59,7 @@ refusedLine r = refusedText (r .number) (r .place)
 abbrev pub graphOf : Content → Graph
 graphOf c = graph (c .shape) (c .ends) (c .weights)
 
--- 'builds the point lists': a content with the lists of its rows. Refusal 6 admits these: `sorted-holds` of crates/lists.
+-- 'builds the point lists': a content with the lists of its rows, ascending under each point. Refusal 6 admits these: `sorted-holds` of crates/lists.
 abbrev pub networkOf : Content → Network
 networkOf c =
     let m = c .shape .points in

@@ -21,9 +21,9 @@ use Rattle.placement.specs.declared.Answer.the-variants.{Accepted}
 use Rattle.placement.specs.Routes.{submission, placement, failingAt}
 use Rattle.placement.specs.Solved.{answerOf, camerasAfter, pointsAfter}
 
--- Camera 0 sees point 0 with this weight and scale, on the solve program's route 3 with limit 48; the marks are 1, the work buffer has
--- T = 29 numbers, the outputs 3 each. The solve is accepted: anchor 0, route 2, no round, one camera with a count under 2 (R-11); it leaves camera 0 at zero, and the point at
--- (x, y, z).
+-- Camera 0 sees point 0 with this weight and scale, on the solve program's route 3 with limit 48; there is one mark, the work buffer has T = 29
+-- numbers, the outputs have 3 each. The solve is accepted: anchor 0, route 2, no round, one camera with a count under 2 (R-11); it leaves camera 0
+-- at zero, and the point at (x, y, z).
 pub record Solves (w s x y z : Float) : Type 0 where
   pub answer : answerOf (single w s) (placement (submission (single w s) 1 3 48 29 3 3)) ≡
       Accepted (record { anchor = 0; route = 2; rounds = 0; few = 1 })

@@ -51,6 +51,13 @@ fn verdict(name: &[u8], v: Verdict) {
     write_all(1, b"\n");
 }
 
+// With what the marks hold after it.
+fn marked(name: &[u8], v: Verdict, marks: &[usize]) {
+    told(name, v);
+    write_all(1, b", marks");
+    shown(marks);
+}
+
 fn length(n: usize, route: usize, limit: usize) {
     write_all(1, b"work length, n ");
     number(n);
@@ -125,9 +132,7 @@ fn solve(name: &[u8], c: Case, route: usize, limit: usize) {
         route,
         limit,
     );
-    told(name, v);
-    write_all(1, b", marks");
-    shown(&marks);
+    marked(name, v, &marks);
 }
 
 fn with_end(name: &[u8], at: usize, x: usize) {
@@ -183,8 +188,8 @@ fn step(
     points: &[f64],
     offsets: &[usize],
     listed: &[usize],
+    marks: &mut [usize],
 ) {
-    let mut marks = [7usize; 3];
     let v = check_step(
         shape(3, 2, 3, 1),
         ends,
@@ -194,9 +199,9 @@ fn step(
         points,
         offsets,
         listed,
-        &mut marks,
+        marks,
     );
-    verdict(name, v);
+    marked(name, v, marks);
 }
 
 // The good network with one slice in the place of its own.
@@ -210,6 +215,7 @@ fn ends_of(name: &[u8], ends: &[usize]) {
         &POINTS,
         &OFFSETS,
         &LISTED,
+        &mut [7usize; 3],
     );
 }
 
@@ -223,6 +229,7 @@ fn rays_of(name: &[u8], rays: &[f64]) {
         &POINTS,
         &OFFSETS,
         &LISTED,
+        &mut [7usize; 3],
     );
 }
 
@@ -236,6 +243,7 @@ fn weights_of(name: &[u8], weights: &[f64]) {
         &POINTS,
         &OFFSETS,
         &LISTED,
+        &mut [7usize; 3],
     );
 }
 
@@ -249,6 +257,7 @@ fn scales_of(name: &[u8], scales: &[f64]) {
         &POINTS,
         &OFFSETS,
         &LISTED,
+        &mut [7usize; 3],
     );
 }
 
@@ -262,6 +271,7 @@ fn points_of(name: &[u8], points: &[f64]) {
         points,
         &OFFSETS,
         &LISTED,
+        &mut [7usize; 3],
     );
 }
 
@@ -275,6 +285,7 @@ fn offsets_of(name: &[u8], offsets: &[usize]) {
         &POINTS,
         offsets,
         &LISTED,
+        &mut [7usize; 3],
     );
 }
 
@@ -288,12 +299,13 @@ fn listed_of(name: &[u8], listed: &[usize]) {
         &POINTS,
         &OFFSETS,
         listed,
+        &mut [7usize; 3],
     );
 }
 
 fn marks_of(name: &[u8], marks: &mut [usize]) {
-    let v = check_step(
-        shape(3, 2, 3, 1),
+    step(
+        name,
         &ENDS,
         &RAYS,
         &WEIGHTS,
@@ -303,9 +315,6 @@ fn marks_of(name: &[u8], marks: &mut [usize]) {
         &LISTED,
         marks,
     );
-    told(name, v);
-    write_all(1, b", marks");
-    shown(marks);
 }
 
 // A graph of n cameras, the direction 0-1 of weight 1 and 1-2 of weight v.

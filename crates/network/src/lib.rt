@@ -19,7 +19,8 @@ ghost use mathlib.Core.List.{[], _∷_};
 ghost use lib.ListN.{length};
 ghost use Prim.Native.Nat.{_+_, _*_};
 ghost use Rattle.network.specs.Network.{graph, network, rows};
-ghost use Rattle.network.specs.Refusals.{verdict, countTests, endTests, linkTests, graphRowTests, networkRowTests, marksAfter, section, badVector};
+ghost use Rattle.network.specs.Refusals.{verdict, countTests, endTests, linkTests, graphRowTests, networkRowTests, marksAfter};
+ghost use Rattle.network.specs.Refusals.{section, badVector};
 ghost use Rattle.network.specs.inner.Sound.{ShapeSound, NetworkLengths};
 
 // The four counts: cameras n, points m, bearings B, directions E.
@@ -93,8 +94,8 @@ pub fn check_links(
     ensures { λ r. ⌜ r ≡ verdict (linkTests s (now (ends .entry)) (now (offsets .entry)) (now (listed .entry))) ⌝ }
     ensures { λ _. ⌜ now (marks .exit) ≡ marksAfter (verdict (endTests s (now (ends .entry)))) (s .bearings) (now (marks .entry)) ⌝ }
 {
-    let stray = check_ends(s, ends);
-    if let Verdict::Refused(r) = stray {
+    let range = check_ends(s, ends);
+    if let Verdict::Refused(r) = range {
         return Verdict::Refused(r);
     }
     check_lists(s, ends, offsets, listed, marks)

@@ -11,7 +11,8 @@ use Rattle.network.specs.declared.Shape.{Shape}
 use Rattle.network.specs.declared.Verdict.{Verdict}
 use Rattle.network.specs.declared.Verdict.the-variants.{Refused, Passed}
 use Rattle.network.specs.Network.{Network, rows}
-use Rattle.network.specs.Refusals.{verdict, countTests, lengthTests, earlyTests, networkFits, vectorsFit, networkRowTests, marksAfter, section, badVector}
+use Rattle.network.specs.Refusals.{verdict, countTests, lengthTests, earlyTests, networkFits, vectorsFit, networkRowTests, marksAfter}
+use Rattle.network.specs.Refusals.{section, badVector}
 use Rattle.recover.specs.Part.{marked}
 use Rattle.recover.specs.Recover.{dotsOf, scalesOf}
 

@@ -13,16 +13,24 @@ solve-spec =
     (λ c. search solve-rejected)
     (λ c. search needs)
     (λ c κs.
-    let S = submission-sound _ _ (c .before .before .before .before .before .before .before .check .ensures .0) (c .before .before .before .enum-told .given .1) in
+    let e = c .before .before .before in
+    let S = submission-sound _ _ (e .before .before .before .before .check .ensures .0) (e .enum-told .given .1) in
     (S .checked, (S .cameras, S .points)))
-    (λ c κs. submission-sound _ _ (c .before .before .before .before .before .before .before .before .before .before .before .before .before .before .before .check .ensures .0) (c .before .before .before .before .before .before .before .before .before .before .before .enum-told .given .1) .checked .sound .links .ends .shape)
     (λ c κs.
-    let S = submission-sound _ _ (c .before .before .before .before .before .before .before .before .before .before .before .before .before .before .before .before .check .ensures .0) (c .before .before .before .before .before .before .before .before .before .before .before .before .enum-told .given .1) in
-    clear-room _ _ _ _ _ _ _ _ _ _ _ (S .checked) (c .before .before .before .before .before .before .before .before .place .ensures) (c .work-needed .ensures))
+    let e = c .before .before .before .before .before .before .before .before .before .before .before in
+    submission-sound _ _ (e .before .before .before .before .check .ensures .0) (e .enum-told .given .1) .checked .sound .links .ends .shape)
+    (λ c κs.
+    let p = c .before .before .before .before .before .before .before .before in
+    let e = p .before .before .before .before in
+    let S = submission-sound _ _ (e .before .before .before .before .check .ensures .0) (e .enum-told .given .1) in
+    clear-room _ _ _ _ _ _ _ _ _ _ _ (S .checked) (p .place .ensures) (c .work-needed .ensures))
     (λ c. search needs)
     (λ c. search needs)
     (λ c. search needs)
     (λ c. search needs)
     (λ c.
-    let k = c .before .before .before .before .before .before .before .before .before .before .before .before .before .before .before .before .before .before .before .check .ensures in
-    solve-placed _ _ _ _ _ _ _ (k .0) (k .1) _ _ _ _ _ _ (c .before .before .before .before .before .before .before .before .before .before .before .before .before .before .before .enum-told .given .1) (c .before .before .before .before .before .before .before .before .before .before .before .place .ensures) (c .before .before .before .work-needed .ensures) (c .before .before .clear .ensures)))
+    let f = c .before .before in
+    let p = f .before .before .before .before .before .before .before .before .before in
+    let e = p .before .before .before .before in
+    let k = e .before .before .before .before .check .ensures in
+    solve-placed _ _ _ _ _ _ _ (k .0) (k .1) _ _ _ _ _ _ (e .enum-told .given .1) (p .place .ensures) (f .before .work-needed .ensures) (f .clear .ensures)))

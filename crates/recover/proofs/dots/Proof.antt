@@ -12,11 +12,17 @@ dots-spec =
     (λ c. search needs)
     (λ c. search needs)
     (λ c κs. search needs)
-    (λ c κs. dots-ready _ _ (c .before .before .before .before .before .before .before .before .before .before .before .before .before .before .before .before .before .before .before .args .out .now) (may-fill _ _ (c .before .before .before .before .before .before .check .ensures .0) _ _ (c .before .before .enum-told .given .1) refl (c .before .marked-buffer .ensures)))
+    (λ c κs.
+    let e = c .before .before in
+    let k = e .before .before .before .before in
+    let lent = k .before .before .before .before .before .before .before .before .before .before .before .before .before .args in
+    dots-ready _ _ (lent .out .now) (may-fill _ _ (k .check .ensures .0) _ _ (e .enum-told .given .1) refl (c .before .marked-buffer .ensures)))
     (λ c. search needs)
     (λ c. search left-refused)
     (λ c. search needs)
     (λ c. search needs)
     (λ c.
-    let k = c .before .before .before .before .before .before .before .before .before .check .ensures in
-    left-filled _ _ (k .0) (k .1) _ _ (c .before .before .before .before .before .enum-told .given .1) (c .before .before .fill-dots .ensures ∙ rw (c .before .before .before .before .marked-buffer .ensures))))
+    let f = c .before .before in
+    let e = f .before .before .before in
+    let k = e .before .before .before .before .check .ensures in
+    left-filled _ _ (k .0) (k .1) _ _ (e .enum-told .given .1) (f .fill-dots .ensures ∙ rw (f .before .before .marked-buffer .ensures))))

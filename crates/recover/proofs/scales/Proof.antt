@@ -12,11 +12,15 @@ scales-spec =
     (λ c. search needs)
     (λ c. search needs)
     (λ c κs. search needs)
-    (λ c κs. may-fill _ _ (c .before .before .before .before .before .before .check .ensures .0) _ _ (c .before .before .enum-told .given .1) refl (c .before .marked-buffer .ensures))
+    (λ c κs.
+    let e = c .before .before in
+    may-fill _ _ (e .before .before .before .before .check .ensures .0) _ _ (e .enum-told .given .1) refl (c .before .marked-buffer .ensures))
     (λ c. search needs)
     (λ c. search left-refused)
     (λ c. search needs)
     (λ c. search needs)
     (λ c.
-    let k = c .before .before .before .before .before .before .before .before .before .check .ensures in
-    left-filled _ _ (k .0) (k .1) _ _ (c .before .before .before .before .before .enum-told .given .1) (c .before .before .fill-scales .ensures ∙ rw (c .before .before .before .before .marked-buffer .ensures))))
+    let f = c .before .before in
+    let e = f .before .before .before in
+    let k = e .before .before .before .before .check .ensures in
+    left-filled _ _ (k .0) (k .1) _ _ (e .enum-told .given .1) (f .fill-scales .ensures ∙ rw (f .before .before .marked-buffer .ensures))))

@@ -16,7 +16,8 @@ solve-listed-spec =
     (λ c. search needs)
     (λ c. search needs)
     (λ c.
-    let B = c .before .before .before .before .before .before .before .before .before .before .before .before .before .before .before .before .before .before .before .before .before .before .before .before .before .pre .0 in
+    let k = c .before .before .before .before .before .before .before .before .before .before .before .before .before in
+    let B = k .before .before .before .before .before .before .before .before .before .before .before .before .pre .0 in
     record {
       solved = search (solved, arith);
       cameras = omega (arith, B .small .cameras, B .cameras);

@@ -22,10 +22,12 @@ check-step-spec =
     (λ c. search needs)
     (λ c. search needs)
     (λ c. search needs)
-    (λ c κs. (
+    (λ c κs.
+    let k = c .before .before .before .before .before in
+    let l = k .before .before in (
       search counted,
       (
-        network-fits _ (measured (c .before .before .before .before .before .before .before .check-lengths .ensures) (c .before .before .before .before .before .enum-told2 .given .1) (c .before .before .before .before .before .before .before .before .network-fits .ensures)),
+        network-fits _ (measured (l .check-lengths .ensures) (k .enum-told2 .given .1) (l .before .network-fits .ensures)),
         eqb-true _ _ (measured (c .before .before .before .check-lengths2 .ensures) (c .before .enum-told3 .given .1) refl),
       ),
     ))
