@@ -10,12 +10,12 @@ use native.Mathlib.Numerals.{towards-suc}
 use native.Mathlib.Omega.{arith}
 use lib.ListN.{length, getD, set, take, drop, replicate, length-set, length-append, length-drop, length-replicate, drop-of-length-le}
 use lib.Seq.{take-nil, take-take, drop-drop, length-take-le, set-set, set-comm, take-set-le, drop-set-lt, getD-set-same, getD-set-other, getD-take, getD-drop, ext-getD, sets, drop-append-add}
-use lib.Seq.{take-set-lt, drop-set-add, drop-append-le, take-append-le, take-length, take-at, drop-at}
+use lib.Seq.{drop-set-add, drop-append-le, take-append-le, take-length, take-at, drop-at}
 use lib.Ieee.{Float, nan}
 use Rattle.field.specs.declared.Vec3.{Vec3}
-use Rattle.field.specs.Count.{field, upto}
+use Rattle.field.specs.Count.{field}
 use Rattle.field.specs.Buffer.{part, write, Cell, get, put, flat, load, store, number, vector}
-use Rattle.field.proofs.Counting.{length-field, getD-field, field-ext, field-suc, upto-suc}
+use Rattle.field.proofs.Counting.{length-field, getD-field, field-ext, field-suc}
 
 -- the places p .. p + a - 1 lie before q .. q + b - 1, or after them
 abbrev pub Apart : ℕ → ℕ → ℕ → ℕ → Type 0

@@ -97,7 +97,6 @@ fn mark_list(
 
 // Point p's list.
 fn mark_point(
-    m: usize,
     b: usize,
     ends: &[usize],
     offsets: &[usize],
@@ -107,7 +106,8 @@ fn mark_point(
 ) -> bool
     requires { ⌜ 2 * b ≤ length (now ends) ⌝ }
     requires { ⌜ length (now listed) ≡ b ⌝ }
-    requires { ⌜ OffsetsSound m b (now offsets) × (p < m) ⌝ }
+    requires { ⌜ p + 1 < length (now offsets) ⌝ }
+    requires { ⌜ (getD (now offsets) p 0 ≤ getD (now offsets) (p + 1) 0) × (getD (now offsets) (p + 1) 0 ≤ b) ⌝ }
     requires { ⌜ Marked b (now listed) true (getD (now offsets) p 0) (now marks) ⌝ }
     ensures { λ r. ⌜ r ≡ not (hasUnfit b (now (ends .entry)) (now (offsets .entry)) (now (listed .entry)) p) ⌝ }
     ensures { λ r. ⌜ Marked b (now (listed .entry)) r (getD (now (offsets .entry)) (p + 1) 0) (now (marks .exit)) ⌝ }
@@ -135,7 +135,7 @@ fn mark_points(
 {
     let mut p = 0usize;
     while p < m {
-        if !mark_point(m, b, ends, offsets, listed, p, marks) {
+        if !mark_point(b, ends, offsets, listed, p, marks) {
             return false;
         }
         p += 1;

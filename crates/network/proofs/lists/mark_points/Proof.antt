@@ -1,6 +1,6 @@
 use mathlib.Core.Bool.{true}
 use mathlib.Core.Path.{_≡_, refl, sym}
-use Prim.Native.Nat.{_≤_, _-_}
+use Prim.Native.Nat.{_+_, _≤_, _-_}
 use native.Mathlib.Omega.{arith}
 use lib.ListN.{getD}
 use borrow.Author.Tests.{not-false}
@@ -25,7 +25,19 @@ mark-points-spec =
     Inv-loop
     μ-loop
     (λ c. let g = c .before .before .before .before .pre .1 .1 in (omega arith, none-zero _, marks-at (g .1) refl (sym (g .0 .start))))
-    (λ c κs. let g = c .before .before .before .before .before .before .before .pre .1 in (omega arith, (g .0, ((g .1 .0, omega arith), c .before .before .loop .inv .2))))
+    (λ c κs.
+    let k = c .before .before in
+    let g = k .before .before .before .before .before .pre .1 in
+    let o = g .1 .0 in (
+      omega arith,
+      (
+        g .0,
+        (
+          omega (arith, o .size),
+          ((o .rises (k .loop .p) (omega arith), o .within (k .loop .p + 1) (omega arith)), k .loop .inv .2),
+        ),
+      ),
+    ))
     (λ c. omega arith)
     (λ c. (none-not _ _ _ (c .before .before .before .mark-point .ensures .0) (c .if1 .taken) (omega arith), c .before .before .before .mark-point .ensures .1 .size))
     (λ c. omega arith)
