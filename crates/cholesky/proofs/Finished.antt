@@ -165,7 +165,7 @@ module _ (d : ℕ) (s l : List Float) where
     own-more : (c : ℕ) → c ≤ j → entry d C i c ≡ entry d l i c
     own-more =
         through _ j
-        (λ c b. other i c (λ q. omega arith) (omega arith) ∙ p.row.own_val c b)
+        (λ c b. other i c (λ q. omega arith) (omega arith) ∙ p.row.own c b)
         (rw e (entry-same d B i j (entry d l i j) p.row.size hi (omega arith)))
 
     rest_more : Outside d (λ (m c : ℕ). (m ≡ i) × (c ≤ i)) A C

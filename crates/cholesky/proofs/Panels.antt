@@ -15,7 +15,7 @@ use Rattle.field.proofs.Counting.{upto_add, upto-ext}
 use Rattle.cholesky.specs.declared.Four.{Four}
 use Rattle.cholesky.specs.declared.Solve.{Solve}
 use Rattle.cholesky.specs.declared.Solve.TheVariants.{Done, Stopped}
-use Rattle.cholesky.specs.Cholesky.{done, ended, entry, inner_step, factor}
+use Rattle.cholesky.specs.Cholesky.{ended, entry, inner_step, factor}
 use Rattle.cholesky.specs.inner.Stages.{lane, finite4, off, taken, four, stored, Solves, left, Made, FactorCells, Refused}
 use Rattle.cholesky.specs.inner.Stages.{RowsDone, RowsEnd, PanelReady, PanelMade, PanelEnds, OutsidePanel}
 use Rattle.cholesky.specs.inner.Stages.{RowsFinished, RowSolved, PanelSolved, Eliminated, ColumnsEnd, Stage, Reached, Finishes}

@@ -1,4 +1,6 @@
 // Cholesky's factor of a matrix of d rows and columns, in the matrix's place, and the solution by substitution, in the right side's place.
+#![tactic(auto)]
+
 ghost use Rattle.std.specs.Prelude.{◌≡◌, ◌&&◌, ◌+◌, ◌*◌, ◌<◌, ◌≤◌, min, length, set, take};
 ghost use Rattle.std.specs.Float.Ieee.{lt};
 ghost use Rattle.std.specs.Float.Ieee.Scale.{finite};
@@ -15,14 +17,14 @@ use field::{Vec3, get3, put3};
 use sqrt::sqrt;
 
 // How a factor or a substitution ends: done, or stopped by document 01's refusal `number` at the row `row`.
-#[derive(Drop)]
+#[derive(Clone, Copy)]
 pub enum Solve {
     Done,
     Stopped { number: usize, row: usize },
 }
 
 // Four neighbouring columns of a row: entries, or what is left of their remainders so far.
-#[derive(Drop)]
+#[derive(Clone, Copy)]
 struct Four {
     first: f64,
     second: f64,
@@ -31,7 +33,7 @@ struct Four {
 }
 
 // How four columns end, and the first row that is not made.
-#[derive(Drop)]
+#[derive(Clone, Copy)]
 struct Columns {
     end: Solve,
     rows: usize,

@@ -1,4 +1,6 @@
 // What the solve program does, from the bytes of its input to the text that it prints.
+#![tactic(auto)]
+
 mod listing;
 mod output;
 mod parts;
@@ -13,7 +15,7 @@ use placement::Answer;
 use reading::run_short;
 
 // The answer, and how many bytes of text stand at the front of the buffer.
-#[derive(Drop)]
+#[derive(Clone, Copy)]
 pub struct Printed {
     pub answer: Answer,
     pub length: usize,

@@ -10,7 +10,7 @@ use network::Shape;
 use placement::{Answer, solve};
 
 // The number of parts, and the answer.
-#[derive(Drop)]
+#[derive(Clone, Copy)]
 struct Solution {
     parts: usize,
     answer: Answer,

@@ -1,4 +1,6 @@
 // The dense solve: Cholesky factor and substitution of the reduced camera system (the Rust's dense.rs).
+#![tactic(auto)]
+
 mod cameras;
 mod couplings;
 mod matrix;

@@ -4,11 +4,11 @@ ghost use Rattle.dense.specs.Rows.{dense_row};
 
 // A row of the dense system. Rows and cameras are both counted from 0 and kept apart: a row is made only here, of a camera and the anchor
 // (the Rust's `reduced_index`, with usize::MAX at the anchor).
-#[derive(Drop)]
+#[derive(Clone, Copy)]
 pub struct DenseRow(usize);
 
 // The row of a camera: the anchor has none.
-#[derive(Drop)]
+#[derive(Clone, Copy)]
 pub enum Row {
     Anchor,
     Dense(DenseRow),

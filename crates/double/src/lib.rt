@@ -1,4 +1,6 @@
 // Doubles: what the kernel needs of IEEE 754's binary64 beyond the operators.
+#![tactic(auto)]
+
 ghost use Rattle.std.specs.Prelude.{◌≡◌, not, ◌&&◌};
 ghost use lib.Ieee.{binary64, lt, of_bits, to_bits};
 ghost use Rattle.std.specs.Float.Ieee.Scale.{finite};
@@ -67,7 +69,7 @@ pub fn to_bits(x: f64) -> u64
 }
 
 // What 64 bits stand for.
-#[derive(Drop)]
+#[derive(Clone, Copy)]
 pub enum Decoded {
     Finite(f64),
     Infinite(bool),

@@ -1,6 +1,8 @@
 // Runs the rows of document 01's 'Values at the edges' through the public functions and prints what they answer.
 // What it must print is the file `stdout`; the rows that are proved of the definitions stand in specs/Edges.antt.
 // The most rounds stand only there: no public function answers them.
+#![tactic(auto)]
+
 use io::{print_hex, write_all};
 use network::Shape;
 

@@ -15,7 +15,7 @@ use Rattle.graph.specs.declared.Listing.{Listing}
 use Rattle.graph.specs.Outcome.{ConnectivityCall, ListingCall}
 use Rattle.system.specs.declared.work.Length.{Length}
 use Rattle.system.specs.Work.{length_of}
-use Rattle.recover.specs.Contracts.{placed, DotsFilled, ScalesFilled}
+use Rattle.recover.specs.Calls.{placed, DotsFilled, ScalesFilled}
 use Rattle.placement.specs.declared.Answer.{Answer}
 use Rattle.placement.specs.Routes.{submission}
 use Rattle.placement.specs.Solved.{Solved}

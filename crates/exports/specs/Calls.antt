@@ -8,7 +8,7 @@ use Rattle.network.specs.Network.{Graph}
 use Rattle.network.specs.Refusals.{verdict, count_tests}
 use Rattle.graph.specs.Outcome.{ConnectivityCall, ListingCall}
 use Rattle.system.specs.Work.{length_of}
-use Rattle.recover.specs.Contracts.{PlacedNetwork, DotsFilled, ScalesFilled}
+use Rattle.recover.specs.Calls.{PlacedNetwork, DotsFilled, ScalesFilled}
 use Rattle.placement.specs.Routes.{Submission}
 use Rattle.placement.specs.Solved.{Solved}
 use Rattle.layout.specs.Image.{Content}

@@ -1,12 +1,14 @@
 // The entry points for C and Rust to link. A slice is a pointer and then a length. A call answers 0, or a refusal's number with its place as the
 // report's first number. A report of another length than the call's is refused by 3, in its turn after the tests before 3.
+#![tactic(auto)]
+
 mod codes;
 
 ghost use Rattle.std.specs.Prelude.{◌≡◌, not, eqb, length};
 ghost use Rattle.std.specs.Float.{binary64};
 ghost use Rattle.sqrt.specs.Root.{root};
 ghost use Rattle.network.specs.Network.{shape as shape_of, graph as graph_of, network as network_of};
-ghost use Rattle.recover.specs.Contracts.{placed as placed_of};
+ghost use Rattle.recover.specs.Calls.{placed as placed_of};
 ghost use Rattle.placement.specs.Routes.{submission};
 ghost use Rattle.layout.specs.Image.{content};
 ghost use Rattle.image.specs.Calls.{lists as lists_of};

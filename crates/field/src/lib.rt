@@ -1,9 +1,11 @@
 // Vectors of three doubles, and how they lie in a lent buffer.
+#![tactic(auto)]
+
 ghost use Rattle.std.specs.Prelude.{◌≡◌, cond, ◌++◌, ◌+◌, ◌*◌, ◌≤◌, eqb, length, drop, replicate};
 ghost use Rattle.field.specs.Vec.{null, origin, plus, minus, scale, over, dot as product};
 ghost use Rattle.field.specs.Buffer.{get, put, load, store, vector};
 
-#[derive(Drop)]
+#[derive(Clone, Copy)]
 pub struct Vec3 {
     pub x: f64,
     pub y: f64,
@@ -11,7 +13,7 @@ pub struct Vec3 {
 }
 
 // The lowest place with some property, where there is one.
-#[derive(Drop)]
+#[derive(Clone, Copy)]
 pub enum Place {
     At(usize),
     Nowhere,

@@ -17,7 +17,7 @@ use Rattle.network.specs.declared.Shape.{Shape}
 use Rattle.network.specs.Network.{Graph, graph, rows, first_end, second_end}
 use Rattle.graph.specs.Walk.{Walk, stay, step, Connects, LowestReached}
 use Rattle.graph.specs.Joined.{second_node, SamePair, Joined, JoinedBelow}
-use Rattle.graph.specs.inner.Forest.{parent, Forest, Singletons, RootsZero, root_of, merged, Merged, Spans}
+use Rattle.graph.specs.inner.Forest.{Forest, Singletons, RootsZero, root_of, merged, Merged, Spans}
 use Rattle.graph.proofs.Walks.{append, reverse, shared, widen}
 use Rattle.graph.proofs.Forests.{root-top, root-falls}
 

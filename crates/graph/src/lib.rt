@@ -1,4 +1,6 @@
 // Which cameras of a graph are connected (document 01, connectivity and parts listing; the Rust's `active_graph_is_connected`).
+#![tactic(auto)]
+
 mod checks;
 mod forest;
 mod rows;
@@ -18,14 +20,14 @@ use forest::{all_roots_zero, list_labels};
 use network::{Refusal, Shape, Verdict};
 use rows::join_rows;
 
-#[derive(Drop)]
+#[derive(Clone, Copy)]
 pub enum Connectivity {
     Refused(Refusal),
     Connected,
     Disconnected,
 }
 
-#[derive(Drop)]
+#[derive(Clone, Copy)]
 pub enum Listing {
     Refused(Refusal),
     Parts(usize),

@@ -1,4 +1,6 @@
 // The network image: reader and writer.
+#![tactic(auto)]
+
 mod fill;
 mod head;
 mod rows;
@@ -23,14 +25,14 @@ use rows::check_rows;
 use writing::{check_write, image_size};
 
 // The counts of an image, or its refusal.
-#[derive(Drop)]
+#[derive(Clone, Copy)]
 pub enum Counted {
     Refused(Refusal),
     Of(Shape),
 }
 
 // How many bytes were written.
-#[derive(Drop)]
+#[derive(Clone, Copy)]
 pub enum Written {
     Refused(Refusal),
     Bytes(usize),

@@ -18,14 +18,14 @@ use system::get_term;
 use system::work::{applied_at, positions_at, preconditioned_at, residual_at, right_at, search_at};
 
 // What the method starts with: the square sums of the right side, and the first round's record.
-#[derive(Drop)]
+#[derive(Clone, Copy)]
 pub(crate) struct Opening {
     pub(crate) sums: Vec3,
     pub(crate) round: Round,
 }
 
 // The sums of the first pass: the squares of the right side, and the products of residual and preconditioned residual.
-#[derive(Drop)]
+#[derive(Clone, Copy)]
 struct StartSums {
     right: Vec3,
     old: Vec3,

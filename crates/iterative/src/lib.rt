@@ -1,4 +1,6 @@
 // The iterative solve: preconditioned conjugate gradients for three right sides at once.
+#![tactic(auto)]
+
 mod components;
 mod ends;
 mod fields;
@@ -24,7 +26,7 @@ use network::Shape;
 use rounds::iterate;
 
 // Which of the components x, y and z are still iterated.
-#[derive(Drop)]
+#[derive(Clone, Copy)]
 pub struct Active {
     pub x: bool,
     pub y: bool,
@@ -32,7 +34,7 @@ pub struct Active {
 }
 
 // What one round hands to the next: the products of residual and preconditioned residual, the flags, and the rounds made.
-#[derive(Drop)]
+#[derive(Clone, Copy)]
 pub struct Round {
     pub old: Vec3,
     pub active: Active,
@@ -40,7 +42,7 @@ pub struct Round {
 }
 
 // How a round ends: refused with document 01's number and place, with a component that is still iterated, or with none.
-#[derive(Drop)]
+#[derive(Clone, Copy)]
 pub enum Step {
     Failed(usize, usize),
     Running(Round),
@@ -48,7 +50,7 @@ pub enum Step {
 }
 
 // The answer of the solve: document 01's number and place, or the count of rounds, with the positions in their place.
-#[derive(Drop)]
+#[derive(Clone, Copy)]
 pub enum Outcome {
     Failed { number: usize, place: usize },
     Placed(usize),

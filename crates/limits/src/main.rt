@@ -1,5 +1,7 @@
 // Calls the tests 1 to 8 and the graph calls on good and bad input at the limits and prints number and place of each refusal.
 // What it must print is the file `stdout`.
+#![tactic(auto)]
+
 mod stages;
 
 use graph::{Connectivity, Listing};
@@ -81,7 +83,7 @@ const OFFSETS: [usize; 3] = [0, 2, 3];
 
 const LISTED: [usize; 3] = [0, 1, 2];
 
-#[derive(Drop)]
+#[derive(Clone, Copy)]
 struct Case {
     ends: [usize; 8],
     rays: [f64; 12],

@@ -1,4 +1,6 @@
 // The point lists of a network, built from its rows (the Rust's `point_offsets` and `point_bearings`).
+#![tactic(auto)]
+
 mod entry;
 mod sort;
 

@@ -1,4 +1,6 @@
 // The network as it is lent, and refusals 1 to 8 in stages. A call makes the tests of its stages one after another.
+#![tactic(auto)]
+
 pub mod answers;
 pub mod domain;
 pub mod ends;
@@ -19,7 +21,7 @@ use ends::check_ends;
 use lists::check_lists;
 
 // The four counts: cameras n, points m, bearings B, directions E.
-#[derive(Drop)]
+#[derive(Clone, Copy)]
 pub struct Shape {
     pub cameras: usize,
     pub points: usize,
@@ -28,20 +30,20 @@ pub struct Shape {
 }
 
 // Places of the point lists: so many, from the first on.
-#[derive(Drop)]
+#[derive(Clone, Copy)]
 pub struct Span {
     pub first: usize,
     pub size: usize,
 }
 
 // A refused call: document 01's number and place.
-#[derive(Drop)]
+#[derive(Clone, Copy)]
 pub struct Refusal {
     pub number: usize,
     pub place: usize,
 }
 
-#[derive(Drop)]
+#[derive(Clone, Copy)]
 pub enum Verdict {
     Refused(Refusal),
     Passed,

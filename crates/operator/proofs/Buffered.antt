@@ -1,13 +1,12 @@
 -- The weights that stand in the buffer, and the network's. Assumes nothing.
 use mathlib.Core.Path.{ap, sym, ◌∙◌, ◌≡◌}
 use mathlib.Core.List.{List}
-use Prim.Native.Nat.{ℕ, ◌*◌, ◌+◌, ◌<◌, ◌≤◌}
+use Prim.Native.Nat.{ℕ, ◌*◌, ◌+◌, ◌<◌}
 use native.Mathlib.Omega.{arith}
 use lib.ListN.{drop, get_or}
 use lib.Seq.{get_or-drop}
 use lib.Ieee.{Float, nan}
-use Rattle.field.specs.Buffer.{get, load, store, vector}
-use Rattle.field.specs.Vec.{minus, scale}
+use Rattle.field.specs.Buffer.{get, vector}
 use Rattle.field.specs.declared.Vec3.{Vec3}
 use Rattle.network.specs.Network.{Links, first_end}
 use Rattle.network.specs.inner.Sound.{LinksSound}

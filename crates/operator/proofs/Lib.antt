@@ -2,5 +2,3 @@ pub mod OperatorLaws
 pub mod Buffered
 pub mod Passes
 pub mod Sights
-pub mod Operands
-pub mod Holding

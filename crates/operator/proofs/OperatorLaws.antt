@@ -16,9 +16,9 @@ use Rattle.field.specs.Vec.{Axis, on, origin, plus, minus, scale, at}
 use Rattle.field.proofs.Vectors.{on-plus, on-minus, on-scale}
 use Rattle.field.proofs.Counting.{length-field, get_or-field, upto-ext, upto-invariant}
 use Rattle.double.proofs.Finite.{finite-add, finite-sub, finite-mul}
-use Rattle.network.specs.Network.{rows, row_at, Links, span_of, links_of}
-use Rattle.system.specs.System.{tiny, Weights, ridge, weights_of}
-use Rattle.operator.specs.Operator.{Change, changed, ridge_entry, gains, loses, times, mean_step, ridged, bearing_step, list_step, span_pass, point_step, direction_step, reduced, reduced_by}
+use Rattle.network.specs.Network.{rows, row_at, Links, span_of}
+use Rattle.system.specs.System.{tiny, Weights, ridge}
+use Rattle.operator.specs.Operator.{Change, changed, ridge_entry, gains, loses, times, mean_step, ridged, bearing_step, list_step, span_pass, point_step, direction_step, reduced_by}
 use Rattle.network.specs.declared.Span.{Span}
 use Rattle.network.specs.inner.Sound.{LinksSound}
 

@@ -19,7 +19,7 @@ use Rattle.field.specs.declared.Vec3.{Vec3}
 use Rattle.network.specs.Network.{first_end, rows, second_end, Links, links, row_at, span_of}
 use Rattle.network.specs.declared.Shape.{Shape}
 use Rattle.system.specs.System.{tiny}
-use Rattle.system.specs.Work.{effective_at, weights_at}
+use Rattle.system.specs.Work.{weights_at}
 use Rattle.operator.proofs.OperatorLaws.{Sized, changed-length, sized-bearing, sized-direction, sized-point, sized-times}
 use Rattle.operator.proofs.Buffered.{weights-kept}
 use Rattle.operator.specs.Operator.{Change, bearing_step, changed, direction_step, list_step, mean_step, point_step, reduced_by, ridge_at, ridge_entry, ridged, span_pass, times}

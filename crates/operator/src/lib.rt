@@ -1,4 +1,6 @@
 // The reduced camera system, matrix-free (the Rust's `ReducedOperator`). The effective weights and the point weights stand in the work buffer.
+#![tactic(auto)]
+
 pub mod held;
 mod short;
 

@@ -13,7 +13,7 @@ use network::links::{camera_of, listed_at};
 use system::reads::row_weight;
 
 // What a point has of one bearing: its camera, its effective weight, and the camera's vector.
-#[derive(Drop)]
+#[derive(Clone, Copy)]
 pub(crate) struct Sight {
     camera: usize,
     weight: f64,

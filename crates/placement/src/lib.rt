@@ -1,4 +1,6 @@
 // The solve: checks, routes, report, and what every lent buffer holds after.
+#![tactic(auto)]
+
 mod checks;
 mod routes;
 
@@ -24,7 +26,7 @@ use system::work::{positions_at, work_needed};
 
 // An accepted solve: the anchor, the answering route (1, 2, or 3 for dense after iterative), the rounds (0 when dense answered), and how many cameras
 // have a count under 2.
-#[derive(Drop)]
+#[derive(Clone, Copy)]
 pub struct Report {
     pub anchor: usize,
     pub route: usize,
@@ -32,7 +34,7 @@ pub struct Report {
     pub few: usize,
 }
 
-#[derive(Drop)]
+#[derive(Clone, Copy)]
 pub enum Answer {
     Refused(Refusal),
     Accepted(Report),

@@ -13,7 +13,7 @@ use iterative::{Outcome, solve_iterative};
 use network::{Refusal, Shape};
 
 // How a route ends: with a refusal, or with the answering route and its rounds.
-#[derive(Drop)]
+#[derive(Clone, Copy)]
 pub(crate) enum Ended {
     Failed(Refusal),
     Placed { route: usize, rounds: usize },

@@ -9,7 +9,7 @@ use crate::text::{decimal, hex, keyword, step};
 use double::Decoded;
 
 // The place after a list, and whether its numbers are those that they were compared with.
-#[derive(Drop)]
+#[derive(Clone, Copy)]
 pub struct Found {
     pub next: usize,
     pub same: bool,

@@ -5,14 +5,14 @@ ghost use Rattle.records.specs.Records.{stepped, worded, digit_of, digits, value
 pub const LOST: usize = 0xffff_ffff_ffff_ffff;
 
 // A number, and the place after it.
-#[derive(Drop)]
+#[derive(Clone, Copy)]
 pub struct Number {
     pub value: usize,
     pub next: usize,
 }
 
 // The value of some digits, and how many they are.
-#[derive(Drop)]
+#[derive(Clone, Copy)]
 struct Digits {
     value: usize,
     count: usize,

@@ -9,7 +9,7 @@ use Rattle.system.specs.Edges.{single, directed, five, half}
 use Rattle.system.proofs.Computing.{assembly}
 use Rattle.recover.specs.Part.{marked}
 use Rattle.recover.specs.Recover.{sighting, point_by, points_of, near_end, far_end, baseline_in, direction_kept, kept_by_weight, renewal, answer_in, new_scale_in, new_scale}
-use Rattle.recover.specs.Contracts.{buffers_fit, placed_tests}
+use Rattle.recover.specs.Calls.{buffers_fit, placed_tests}
 use Rattle.recover.specs.Edges.{ScaleEdges}
 
 -- what points and scales are computed with

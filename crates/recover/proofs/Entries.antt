@@ -18,7 +18,7 @@ use Rattle.network.specs.inner.Sound.{NetworkLengths, EndsSound}
 use Rattle.network.proofs.Verdicts.{stage-passed, passes-in}
 use Rattle.network.proofs.Sound.{counts-sound, lengths-fit, vectors-fit, network-fits, network-sound}
 use Rattle.recover.specs.Part.{marked}
-use Rattle.recover.specs.Contracts.{PlacedNetwork, placed, chosen, buffers_fit, lent_fits, placed_tests, placed_verdict, early_verdict, Filled}
+use Rattle.recover.specs.Calls.{PlacedNetwork, placed, chosen, buffers_fit, lent_fits, placed_tests, placed_verdict, early_verdict, Filled}
 use Rattle.recover.specs.inner.Reads.{FillSound, PositionsThere}
 use Rattle.recover.proofs.Cameras.{length_marked}
 

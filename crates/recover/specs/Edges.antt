@@ -9,7 +9,7 @@ use Rattle.system.specs.Edges.{directed, half}
 use Rattle.recover.specs.declared.Scale.{Scale}
 use Rattle.recover.specs.declared.Scale.TheVariants.{Kept, Renewed}
 use Rattle.recover.specs.Recover.{least, scale_answer, scale_number}
-use Rattle.recover.specs.Contracts.{PlacedNetwork, placed, cameras_of, ScalesFilled}
+use Rattle.recover.specs.Calls.{PlacedNetwork, placed, cameras_of, ScalesFilled}
 
 -- the double with these bits
 abbrev bits : ℕ → Float

@@ -1,5 +1,5 @@
 pub mod Recover
 pub mod Part
-pub mod Contracts
+pub mod Calls
 pub mod Edges
 pub mod inner

@@ -3,7 +3,7 @@ ghost use Rattle.std.specs.Prelude.{◌≡◌, ◌&&◌, length};
 ghost use Rattle.network.specs.Network.{network};
 ghost use Rattle.network.specs.Refusals.{verdict, length_tests, network_fits, marks_after};
 ghost use Rattle.network.specs.inner.Sound.{ShapeSound};
-ghost use Rattle.recover.specs.Contracts.{placed, buffers_fit, early_verdict, placed_verdict};
+ghost use Rattle.recover.specs.Calls.{placed, buffers_fit, early_verdict, placed_verdict};
 
 use crate::part::marked_buffer;
 use network::answers::both;

@@ -1,4 +1,6 @@
 // Points, dots and scales from placed cameras: the Rust's `recover_trial_points`, `update_trial_dots`, `update_trial_scales`.
+#![tactic(auto)]
+
 mod entry;
 mod part;
 mod point;
@@ -14,7 +16,7 @@ ghost use Rattle.system.specs.Work.{matrix_at};
 ghost use Rattle.system.specs.inner.Formed.{RowsThere, positions_in, weights_in};
 ghost use Rattle.recover.specs.Part.{marked, camera_part};
 ghost use Rattle.recover.specs.Recover.{points_by, dot_in};
-ghost use Rattle.recover.specs.Contracts.{placed, DotsFilled, ScalesFilled};
+ghost use Rattle.recover.specs.Calls.{placed, DotsFilled, ScalesFilled};
 ghost use Rattle.recover.specs.inner.Reads.{PositionsThere};
 
 use entry::check;
@@ -26,7 +28,7 @@ use rescale::fill_scales;
 use row::dot_row;
 
 // A scale answer: the old scale is kept, or it is renewed with a number.
-#[derive(Drop)]
+#[derive(Clone, Copy)]
 pub enum Scale {
     Kept,
     Renewed(f64),

@@ -1,5 +1,7 @@
 // Replays a sample of the oracle's answers, read from standard input, and compares them bit for bit.
 // What it must print is the file `stdout`; each comparison that fails is a line more.
+#![tactic(auto)]
+
 ghost use Rattle.std.specs.Prelude.{◌≤◌};
 
 use graph::{Connectivity, Listing};
@@ -21,7 +23,7 @@ const CANARY: f64 = -7.25;
 const MARK: usize = 9;
 
 // The counts of a case and what is asked of the solve.
-#[derive(Drop)]
+#[derive(Clone, Copy)]
 struct Case {
     number: usize,
     shape: Shape,
@@ -30,7 +32,7 @@ struct Case {
 }
 
 // Where each list ends in its buffer: one of usize holds ends, offsets and listed rows, one of doubles the other lists.
-#[derive(Drop)]
+#[derive(Clone, Copy)]
 struct Layout {
     ends: usize,
     offsets: usize,
@@ -84,7 +86,7 @@ fn read_nodes(
 }
 
 // The answer line: 0, anchor, route, rounds and few of an accepted solve, else number and place.
-#[derive(Drop)]
+#[derive(Clone, Copy)]
 struct Line {
     first: usize,
     second: usize,
@@ -595,7 +597,7 @@ fn check_rows(
 }
 
 // The first three lines of a case, and the place after them.
-#[derive(Drop)]
+#[derive(Clone, Copy)]
 struct Head {
     case: Case,
     next: usize,
@@ -716,7 +718,7 @@ fn skip_comments(input: &[u8]) -> usize {
 }
 
 // The cases, and those that agree.
-#[derive(Drop)]
+#[derive(Clone, Copy)]
 struct Total {
     cases: usize,
     agree: usize,

@@ -1,5 +1,7 @@
 // Reads a network image from standard input, solves it and prints the answer. What is printed is the text of `command::run`.
 // Where reading or writing fails, a line on standard error says so: a program has no exit status of its own.
+#![tactic(auto)]
+
 use command::run;
 use libc::{STDERR_FILENO, STDIN_FILENO, STDOUT_FILENO};
 use stream::{Moved, read_all, write_all};

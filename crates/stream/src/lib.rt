@@ -2,13 +2,15 @@
 // A call that a signal interrupts before it moves a byte is a failure too, since the number of the C library's error is not read. (A program that
 // handles no signal is not interrupted so.)
 // No contract can say which bytes come in or go out: of the C library's calls only the number of bytes is promised.
+#![tactic(auto)]
+
 ghost use Rattle.std.specs.Prelude.{◌≡◌, ◌+◌, ◌-◌, ◌≤◌, min, length};
 ghost use Rattle.std.proofs.Math.Seq.{paste};
 ghost use Rattle.stream.specs.Stream.{ReadInto};
 ghost use Rattle.stream.specs.inner.Steps.{moved_by, Within, PutAt, ReadAt};
 
 // What a call moved: so many bytes, or that it failed.
-#[derive(Drop)]
+#[derive(Clone, Copy)]
 pub enum Moved {
     Count(usize),
     Failed,

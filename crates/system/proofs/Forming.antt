@@ -1,28 +1,26 @@
 -- The system is formed: the terms of the sums that stand in the buffer are those of the sums themselves. Assumes nothing.
-use mathlib.Core.Path.{◌≡◌, refl, sym, ap, ap₂, ◌∙◌}
-use mathlib.Core.Logic.{◌⊎◌, ⊎_elim, inl, inr}
+use mathlib.Core.Path.{◌≡◌, refl, sym, ap, ◌∙◌}
+use mathlib.Core.Logic.{inl, inr}
 use mathlib.Core.List.{List}
 use mathlib.Core.Bool.{Bool, true, false, cond}
 use Prim.Native.Nat.{ℕ, ◌+◌, ◌*◌, ◌<◌, ◌≤◌}
 use native.Mathlib.Omega.{arith}
-use native.Mathlib.Decide.{dec_lt}
-use borrow.Author.Tests.{ltb-true, ltb-false}
+use borrow.Author.Tests.{ltb-true}
 use lib.Dec.{ltb}
 use lib.ListN.{length, get_or, drop}
 use lib.Ieee.{Float, nan}
-use Rattle.field.specs.declared.Vec3.{Vec3}
 use Rattle.field.specs.Count.{field}
 use Rattle.field.specs.Buffer.{Cell, part, get, flat, load, store, number, vector}
 use Rattle.field.proofs.Counting.{length-field, get_or-field, upto-ext}
-use Rattle.field.proofs.Buffers.{Apart, Lawful, get_d_part, at_load, part_apart, part_same, flat-number, length-flat, length-store, load_store, load-store-apart, drop-store, store-number}
+use Rattle.field.proofs.Buffers.{Apart, Lawful, get_d_part, at_load, part_apart, part_same, length-flat, length-store, load_store, drop-store, store-number}
 use Rattle.field.proofs.Buffers.{number-lawful, vector-lawful}
 use Rattle.network.specs.declared.Shape.{Shape}
-use Rattle.network.specs.Network.{rows, second_end, is_bearing, links}
+use Rattle.network.specs.Network.{rows, second_end, links}
 use Rattle.network.specs.inner.Sound.{EndsSound, LinksSound}
 use Rattle.system.specs.declared.CameraTerm.{CameraTerm}
-use Rattle.system.specs.System.{Weights, Sums, no_term, add_bearing, add_direction, assemble_row, assemble_rows, terms_by, anchor_of, effective_in, pull_in, sums_from}
-use Rattle.system.specs.Work.{weights_at, means_at, effective_at, matrix_at, term, term_place}
-use Rattle.system.specs.inner.Formed.{sums_in, weights_in, summed, Segments, Formed}
+use Rattle.system.specs.System.{Sums, add_bearing, add_direction, assemble_row, assemble_rows, terms_by, anchor_of, effective_in, pull_in, sums_from}
+use Rattle.system.specs.Work.{weights_at, means_at, effective_at, matrix_at, term}
+use Rattle.system.specs.inner.Formed.{sums_in, summed, Formed}
 use Rattle.system.proofs.Anchor.{anchor-below}
 use Rattle.system.proofs.Rows.{length-terms}
 use Rattle.system.proofs.Terms.{term-lawful}

@@ -6,19 +6,19 @@ use mathlib.Core.Bool.{true, false}
 use Prim.Native.Nat.{ℕ, suc, ◌+◌, ◌*◌, ◌<◌, ◌≤◌}
 use native.Mathlib.Numerals.{add-one}
 use native.Mathlib.Omega.{arith}
-use lib.ListN.{length, get_or, set}
-use lib.Ieee.{Float, nan, binary64, add, mul, lt}
+use lib.ListN.{get_or, set}
+use lib.Ieee.{Float, binary64, add, lt}
 use Rattle.field.specs.declared.Vec3.{Vec3}
 use Rattle.field.specs.Vec.{null, origin, plus, over}
 use Rattle.field.specs.Count.{field, upto}
 use Rattle.field.specs.Buffer.{put, store, number, vector}
-use Rattle.field.proofs.Counting.{upto_zero, upto-suc, field-zero}
+use Rattle.field.proofs.Counting.{upto-suc}
 use Rattle.field.proofs.Buffers.{number-set, number-lawful, vector-lawful, map_more, store-more, store-none, put-store-comm}
 use Rattle.double.specs.Sums.{total}
 use Rattle.network.specs.declared.Shape.{Shape}
 use Rattle.network.specs.declared.Span.{Span}
-use Rattle.network.specs.Network.{span_of, row_at}
-use Rattle.system.specs.System.{tiny, effective_in, pull_in, weight_sum, pull_step, pull_sum, mean_of, sums_from, Sums}
+use Rattle.network.specs.Network.{span_of}
+use Rattle.system.specs.System.{tiny, effective_in, pull_in, weight_sum, pull_sum, mean_of, sums_from, Sums}
 use Rattle.system.specs.Work.{weights_at, means_at}
 use Rattle.system.specs.declared.points.ListSums.{ListSums}
 use Rattle.system.specs.declared.points.PointSums.{PointSums}

@@ -127,7 +127,7 @@ pub(crate) fn assemble(
 }
 
 // The best camera so far, and its degree.
-#[derive(Drop)]
+#[derive(Clone, Copy)]
 struct Best {
     camera: usize,
     degree: f64,

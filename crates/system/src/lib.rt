@@ -1,4 +1,6 @@
 // The system of the linear step: effective weights, point sums, assembly, anchor.
+#![tactic(auto)]
+
 mod assembly;
 pub mod points;
 pub mod reads;
@@ -19,7 +21,7 @@ use points::{fill_effective, sum_points};
 use work::term_at;
 
 // What the system keeps of a camera: diagonal, right side, weighted degree, and the count of the rows that entered its diagonal.
-#[derive(Drop)]
+#[derive(Clone, Copy)]
 pub struct CameraTerm {
     pub diagonal: f64,
     pub right: Vec3,

@@ -50,7 +50,7 @@ pub fn point_weight(s: Shape, weights: &[f64], scales: &[f64], listed: &[usize],
 }
 
 // The sums over the rows that a point lists: effective weights, and pulls.
-#[derive(Drop)]
+#[derive(Clone, Copy)]
 struct ListSums {
     weight: f64,
     pull: Vec3,
@@ -107,7 +107,7 @@ fn put_sums(s: Shape, work: &mut [f64], p: usize, t: PointSums)
 }
 
 // The weight and the mean offset of a point.
-#[derive(Drop)]
+#[derive(Clone, Copy)]
 struct PointSums {
     weight: f64,
     mean: Vec3,

@@ -8,7 +8,7 @@ use network::route::dense_rows;
 use network::{Refusal, Shape, Verdict, check_counts};
 
 // The length of a work buffer.
-#[derive(Drop)]
+#[derive(Clone, Copy)]
 pub enum Length {
     Refused(Refusal),
     Of(usize),

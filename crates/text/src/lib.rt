@@ -1,4 +1,6 @@
 // What the solve program prints, into a lent buffer of bytes.
+#![tactic(auto)]
+
 ghost use Rattle.std.specs.Prelude.{◌≡◌, [], ◌∷◌, ◌+◌, ◌/◌, ◌≤◌, ◌<◌, leb, length};
 ghost use Rattle.field.specs.Buffer.{vectors_in};
 ghost use Rattle.text.specs.Text.{digit, hex, decimal, spaced, named, coordinates, vector_line, vector_lines, refused_text};
@@ -9,7 +11,7 @@ use double::to_bits;
 use field::{Vec3, get3};
 
 // The numbers of the first line.
-#[derive(Drop)]
+#[derive(Clone, Copy)]
 pub struct Counts {
     pub cameras: usize,
     pub points: usize,
@@ -18,7 +20,7 @@ pub struct Counts {
 }
 
 // The numbers of the line of the report, and that of the line after it: how many cameras have a count of rows under 2.
-#[derive(Drop)]
+#[derive(Clone, Copy)]
 pub struct Report {
     pub anchor: usize,
     pub route: usize,

@@ -1,0 +1,12 @@
+use Rattle.cholesky.proofs.Substitution.{back-vector-ended, back-vector-more, back-vector-none}
+use native.Mathlib.Omega.{arith}
+use Rattle.cholesky.proofs.back_vector.Goals as goal
+
+pub loop-k-init : goal.loop-k-init
+loop-k-init c = (omega arith, omega arith, search back-vector-none)
+
+pub loop-k-preserved : goal.loop-k-preserved
+loop-k-preserved c = (omega arith, omega arith, search back-vector-more)
+
+pub returns : goal.returns
+returns c = search back-vector-ended

@@ -1,0 +1,13 @@
+use mathlib.Core.Path.{refl}
+use native.Mathlib.Omega.{arith}
+use Rattle.dense.proofs.Placing.{right-none, right-more, right-ended}
+use Rattle.dense.proofs.cameras.fill_right.Goals as goal
+
+pub loop-c-init : goal.loop-c-init
+loop-c-init c = (omega arith, search right-none, refl)
+
+pub loop-c-preserved : goal.loop-c-preserved
+loop-c-preserved c = (omega arith, search right-more, omega arith)
+
+pub returns : goal.returns
+returns c = search right-ended

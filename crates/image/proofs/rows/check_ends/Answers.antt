@@ -1,0 +1,11 @@
+use Rattle.network.proofs.Verdicts.{halts, passes, last, test-at-is}
+use Rattle.network.specs.Refusals.{end_tests}
+use Rattle.image.proofs.rows.check_ends.Goals as goal
+
+pub returns-in-Refused : goal.returns-in-Refused
+unfolding end_tests
+returns-in-Refused c = search (halts, test-at-is)
+
+pub returns : goal.returns
+unfolding end_tests
+returns c = search (passes, last, test-at-is)

@@ -1,0 +1,11 @@
+use Rattle.iterative.proofs.Solving.{concluded-failed, concluded-running, concluded-ended}
+use Rattle.iterative.proofs.ends.conclude.Goals as goal
+
+pub returns-in-Failed : goal.returns-in-Failed
+returns-in-Failed c = search concluded-failed
+
+pub returns-in-Running : goal.returns-in-Running
+returns-in-Running c = search concluded-running
+
+pub returns-in-Ended : goal.returns-in-Ended
+returns-in-Ended c = search concluded-ended

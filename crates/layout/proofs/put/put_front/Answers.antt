@@ -1,0 +1,8 @@
+use Rattle.layout.proofs.Stores.{head-room, front-stored}
+use Rattle.layout.proofs.put.put_front.Goals as goal
+
+pub put_head-requires : goal.put_head-requires
+put_head-requires c = search head-room
+
+pub returns : goal.returns
+returns c = search front-stored

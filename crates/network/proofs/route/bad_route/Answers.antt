@@ -1,0 +1,6 @@
+use Rattle.network.specs.Refusals.{bad_route}
+use Rattle.network.proofs.route.bad_route.Goals as goal
+
+pub returns : goal.returns
+unfolding bad_route
+returns c = rw (← c.either.ensures) c.either-2.ensures

@@ -1,0 +1,18 @@
+use Rattle.placement.proofs.Placing.{checked-links, checked-points, checked-rows, placed-accepted, placed-refused, ran-room}
+use borrow.Author.Rules.{rules}
+use Rattle.placement.proofs.place.Goals as goal
+
+pub fill-requires : goal.fill-requires
+fill-requires c = record { links_sound = search checked-links; rows_there = search checked-rows; points_len = (search checked-points, search ran-room); cameras_len = search rules }
+
+pub returns-in-Accepted : goal.returns-in-Accepted
+returns-in-Accepted c =
+    let k = c in
+    let h = k in
+    let f = h in
+    placed-accepted _ _ _ _ _ _ _ _ _ _ _ _ _ _ _ f.requires.checked f.run-answer.ensures _ _ _
+    h.in-Accepted.is k.fill.ensures.cameras_after k.fill.ensures.placed_after
+
+pub returns : goal.returns
+returns c = search placed-refused
+

@@ -1,0 +1,5 @@
+use Rattle.recover.proofs.Rows.{row-stored}
+use Rattle.recover.proofs.rescale.rescale_row.Goals as goal
+
+pub returns : goal.returns
+returns c = search row-stored

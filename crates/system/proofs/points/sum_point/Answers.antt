@@ -1,0 +1,5 @@
+use Rattle.system.proofs.Sums.{point-done}
+use Rattle.system.proofs.points.sum_point.Goals as goal
+
+pub returns : goal.returns
+returns c = search point-done

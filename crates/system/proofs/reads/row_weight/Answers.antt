@@ -1,0 +1,5 @@
+use Rattle.system.proofs.Segments.{read_at}
+use Rattle.system.proofs.reads.row_weight.Goals as goal
+
+pub returns : goal.returns
+returns c = search read_at
