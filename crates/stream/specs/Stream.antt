@@ -1,6 +1,6 @@
--- What is promised of reading into a lent buffer. The C library promises of its calls only that they answer -1, or how many bytes they moved: so no
--- contract says which bytes came, or what the input was like. The contract of `told` says that -1, and nothing else, is a failure (`moved_by`,
--- specs/inner).
+-- What is promised of reading into a lent buffer. Of a call on standard input std promises only that it answers an error, or how many bytes it
+-- moved: so no contract says which bytes came, or what the input was like. The contract of `told` says that an error, and nothing else, is a failure
+-- (`moved_by`, specs/inner).
 use Rattle.std.specs.Prelude.{ℕ, ◌+◌, ◌≤◌, ◌≡◌, List, length, take, drop}
 use Rattle.stream.specs.declared.Moved.{Moved}
 use Rattle.stream.specs.declared.Moved.TheVariants.{Count, Failed}

@@ -1,14 +1,14 @@
 -- What the steps of `read_all` and `write_all` require and ensure.
-use Rattle.std.specs.Prelude.{ℕ, ◌≤◌, ◌≡◌, List, ℤ, pos, negsuc}
+use Rattle.std.specs.Prelude.{ℕ, ◌≤◌, ◌≡◌, List, Result, Ok, Err}
 use Rattle.std.proofs.Math.Seq.{paste}
 use Rattle.stream.specs.declared.Moved.{Moved}
 use Rattle.stream.specs.declared.Moved.TheVariants.{Count, Failed}
 use Rattle.stream.specs.Stream.{Overwritten}
 
--- what the C library answered: a number below 0 is a failure, and any other a count
-unfoldable pub moved_by : ℤ → Moved
-moved_by (pos k) = Count k
-moved_by (negsuc k) = Failed
+-- what a read or a write answered: an error is a failure, and any other answer a count
+unfoldable pub moved_by : {E : Type 0} → Result ℕ E → Moved
+moved_by (Ok k) = Count k
+moved_by (Err _) = Failed
 
 -- a count is at most n
 unfoldable pub Within : ℕ → Moved → Type 0

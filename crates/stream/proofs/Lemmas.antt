@@ -1,44 +1,24 @@
 -- Laws of what a call answered, and of what is kept. Assumes nothing.
-use Prim.Native.Nat.{ℕ, ◌+◌, ◌-◌, ◌<◌, ◌≤◌}
-use mathlib.Core.Path.{◌≡◌, refl, sym, ap, ◌∙◌}
-use mathlib.Core.List.{List, append_assoc}
-use mathlib.Core.Bool.{true, false}
-use native.Mathlib.Nat.{zero-add}
-use native.Mathlib.Numerals.{add-one}
-use native.Mathlib.Omega.{arith}
-use lib.ListN.{length, take, drop, set, get_or}
-use lib.Seq.{paste, paste-suc, length-paste, drop-paste, take-append-le, length-take-le, take-take, drop-drop}
-use lib.Dec.{T}
-use lib.IntN.{ℤ, pos, negsuc, nat_abs}
-use lib.Signed.{lt_z, non_neg, mag}
-use mir.Syntax.{w64}
-use mir.Val.{to_z, of_z}
-use mir.Facts.{to_z-of_z}
-use borrow.Author.Tests.{ltb-true}
-use Rattle.libc.specs.Io.{Moved as Answers}
+use Rattle.std.proofs.Common.{◌≡◌, ℕ, ◌+◌, ◌-◌, ◌<◌, ◌≤◌, ◌∙◌, List, length, take, drop, set, get_or, refl, sym, ap, append_assoc, add-one, zero-add, arith, Result, Ok, Err, IfOk}
+use Rattle.std.proofs.Math.Seq.{paste, paste-suc}
+use Rattle.std.specs.Io.{ReadsAtMost}
+use Rattle.std.proofs.lemmas.List.{take-append-le, length-take-le, take-take, drop-drop}
+use Rattle.std.proofs.lemmas.List.Edits.{length-paste, drop-paste}
 use Rattle.stream.specs.declared.Moved.{Moved}
 use Rattle.stream.specs.declared.Moved.TheVariants.{Count, Failed}
 use Rattle.stream.specs.Stream.{Overwritten, ReadInto}
 use Rattle.stream.specs.inner.Steps.{moved_by, Within, PutAt, ReadAt}
 
-pub told-failed : (z : ℤ) → lt_z z (pos 0) ≡ true → Failed ≡ moved_by z
-unfolding moved_by
-told-failed (pos k) h = absurd (omega (arith, ltb-true k 0 h))
-told-failed (negsuc k) h = refl
-
-pub told-counted : (z : ℤ) → lt_z z (pos 0) ≡ false → (T (non_neg z)) × (Count (nat_abs z) ≡ moved_by z)
-unfolding moved_by
-told-counted (pos k) h = (tt, refl)
-told-counted (negsuc k) h = absurd (let e : ◌≡◌ {A = ℕ} 0 1 = cc in omega arith)
-
-answer-within : (n : ℕ) (z : ℤ) (r : Moved) → r ≡ moved_by z → Answers n z → Within n r
+pub moved-within : {E : Type 0} (n : ℕ) (a : Result ℕ E) (r : Moved) → r ≡ moved_by a → IfOk a (λ k. k ≤ n) → Within n r
 unfolding moved_by Within
-answer-within n (pos k) r e h = rw e h
-answer-within n (negsuc k) r e h = rw e tt
+moved-within n (Ok k) r e h = rw e h
+moved-within n (Err _) r e h = rw e tt
 
--- an answer that a local held as bits
-pub moved-within : (n : ℕ) (z : ℤ) (r : Moved) → mag z < 9223372036854775808 → r ≡ moved_by (to_z w64 (of_z w64 z)) → Answers n z → Within n r
-moved-within n z r f e h = let q : to_z w64 (of_z w64 z) ≡ z = to_z-of_z (record { sfits = f }) in answer-within n z r (e ∙ ap moved_by q) h
+-- a read into bs
+pub read-within : {E : Type 0} (n : ℕ) (a : Result ℕ E) (r : Moved) (bs : List ℕ) → r ≡ moved_by a → length bs ≡ n → ReadsAtMost a bs → Within n r
+unfolding moved_by Within
+read-within n (Ok k) r bs e l h = rw e (omega arith)
+read-within n (Err _) r bs e l h = rw e tt
 
 pub within_count : (n k : ℕ) (r : Moved) → Within n r → r ≡ Count k → k ≤ n
 unfolding Within
