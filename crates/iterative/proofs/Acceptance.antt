@@ -2,7 +2,7 @@
 -- finite, and with it both sides of the difference: the right side, so that the allowed residual is no NaN, and the operator's output, so that the
 -- cameras are finite. One argument for x, y and z, over any system that is `Regular`. Assumes nothing.
 use mathlib.Core.Path.{◌≡◌, refl, sym, ap, ◌∙◌, subst}
-use mathlib.Core.Bool.{Bool, true, false, not, ◌||◌, true≢false}
+use mathlib.Core.Bool.{Bool, true, false, not}
 use mathlib.Core.List.{List}
 use Prim.Native.Nat.{ℕ, ◌<◌, ◌≤◌}
 use native.Mathlib.Omega.{arith}
@@ -14,7 +14,7 @@ use lib.Ieee.Scale.{finite}
 use Rattle.field.specs.declared.Vec3.{Vec3}
 use Rattle.field.specs.declared.Place.{Place}
 use Rattle.field.specs.declared.Place.TheVariants.{At, Nowhere}
-use Rattle.field.specs.Vec.{Axis, X, Y, Z, at, on, null, origin, minus}
+use Rattle.field.specs.Vec.{Axis, X, Y, Z, at, on, null, origin}
 use Rattle.field.proofs.Vectors.{on-minus, on-origin}
 use Rattle.field.proofs.Counting.{length-field, get_or-field, none_of}
 use Rattle.double.proofs.Finite.{finite-sub, finite-no-nan}
@@ -25,11 +25,11 @@ use Rattle.network.specs.inner.Sound.{NetworkSound}
 use Rattle.system.specs.System.{terms, anchor, weights_of}
 use Rattle.operator.proofs.OperatorLaws.{by-finite}
 use Rattle.iterative.specs.Problem.{Problem, Faithful, Regular, most_rounds}
-use Rattle.iterative.specs.Method.{State, Run, Ending, running, ended, failed, accepted as taken, refused, accepted_unless, component, bad_residual, difference, difference_entry, square_sum}
+use Rattle.iterative.specs.Method.{State, Run, running, ended, failed, accepted as taken, accepted_unless, component, bad_residual, difference, difference_entry, square_sum}
 use Rattle.iterative.specs.Method.{allowed, rounds, residual_of, closed, solution}
 use Rattle.iterative.specs.Reduced.{problem, problem_by}
 use Rattle.system.proofs.Anchor.{anchor-below}
-use Rattle.iterative.specs.Accepted.{Accepted, ByMethod, Fits}
+use Rattle.iterative.specs.Accepted.{Accepted, Fits}
 use Rattle.iterative.proofs.CameraSums.{finite-dot, unsigned-squares}
 use Rattle.iterative.proofs.Tolerances.{allowed-no-nan}
 use Rattle.iterative.proofs.RunInvariant.{Shaped, Reached, rounds-reached}

@@ -13,7 +13,7 @@ use Rattle.field.proofs.Buffers.{drop-store, get-store, get-store-apart, length-
 use Rattle.field.proofs.Counting.{field-ext, get_or-field, length-field, upto-suc, upto_zero}
 use Rattle.field.specs.Buffer.{Cell, get, load, put, store, vector}
 use Rattle.field.specs.Count.{field}
-use Rattle.field.specs.Vec.{at, origin, over, plus}
+use Rattle.field.specs.Vec.{origin, over, plus}
 use Rattle.field.specs.declared.Vec3.{Vec3}
 use Rattle.network.specs.declared.Shape.{Shape}
 use Rattle.system.proofs.Terms.{term-here}
@@ -34,7 +34,7 @@ Spaced n p (g ∷ gs) q = (p ≤ g.place) × Spaced n (g.place + 3 * n) gs q
 
 spaced-most : (n p : ℕ) (gs : List Segment) (q : ℕ) → Spaced n p gs q → p ≤ q
 spaced-most n p [] q h = h
-spaced-most n p (g ∷ gs) q h = let m : g.place + 3 * n ≤ q = spaced-most n _ gs q h.1 in omega (arith, h.0)
+spaced-most n p (g ∷ gs) q h = let m : g.place + 3 * n ≤ q = spaced-most n (g.place + 3 * n) gs q h.1 in omega (arith, h.0)
 
 filled_none : (gs : List Segment) (l : List Float) → filled gs 0 l ≡ l
 unfolding filled
@@ -52,16 +52,16 @@ module _ (n k : ℕ) (b : k ≤ n) where
   unfolding filled
   get-before J p [] q h l x a = refl
   get-before J p (g ∷ gs) q h l x a =
-      get-before J _ gs q h.1 _ x (omega (arith, h.0))
+      get-before J (g.place + 3 * n) gs q h.1 _ x (omega (arith, h.0))
       ∙ get-store-apart J vector vector-lawful l g.place (field k g.entry) x (inr (omega (arith, h.0)))
 
   drop-behind : (p : ℕ) (gs : List Segment) (q : ℕ) → Spaced n p gs q → (l : List Float) → drop q (filled gs k l) ≡ drop q l
   unfolding filled
   drop-behind p [] q h l = refl
   drop-behind p (g ∷ gs) q h l =
-      let m : g.place + 3 * n ≤ q = spaced-most n _ gs q h.1 in
+      let m : g.place + 3 * n ≤ q = spaced-most n (g.place + 3 * n) gs q h.1 in
       let z : length (field k g.entry) ≡ k = length-field k g.entry in
-      drop-behind _ gs q h.1 _ ∙ drop-store vector vector-lawful q l g.place (field k g.entry) (omega arith)
+      drop-behind (g.place + 3 * n) gs q h.1 _ ∙ drop-store vector vector-lawful q l g.place (field k g.entry) (omega arith)
 
   -- a vector put before them
   put-before : (p : ℕ) (gs : List Segment) (q : ℕ) → Spaced n p gs q → (l : List Float) (x : ℕ) (v : Vec3) → x + 3 ≤ p → filled gs k (put vector l x v) ≡ put vector (filled gs k l) x v
@@ -69,7 +69,7 @@ module _ (n k : ℕ) (b : k ≤ n) where
   put-before p [] q h l x v a = refl
   put-before p (g ∷ gs) q h l x v a =
       ap (filled gs k) (sym (put-store-comm vector vector-lawful vector vector-lawful l g.place (field k g.entry) x v (inr (omega (arith, h.0)))))
-      ∙ put-before _ gs q h.1 _ x v (omega (arith, h.0))
+      ∙ put-before (g.place + 3 * n) gs q h.1 _ x v (omega (arith, h.0))
 
   -- camera by camera, in the buffer m: formed below k; as in l0 from k on, where l is as l0 from the first segment on
   each-formed : (p : ℕ) (gs : List Segment) (q : ℕ) → Spaced n p gs q → (l m : List Float) → m ≡ filled gs k l → q ≤ length l →
@@ -79,12 +79,12 @@ module _ (n k : ℕ) (b : k ≤ n) where
   each-formed p (g ∷ gs) q h l m e room =
       let s : length (field k g.entry) ≡ k = length-field k g.entry in
       let w : length (store vector l g.place (field k g.entry)) ≡ length l = length-store vector l g.place (field k g.entry) in
-      let z : g.place + 3 * n ≤ q = spaced-most n _ gs q h.1 in (
+      let z : g.place + 3 * n ≤ q = spaced-most n (g.place + 3 * n) gs q h.1 in (
         λ i c.
-            rw e (get-before vector _ gs q h.1 _ (g.place + 3 * i) (omega arith))
+            rw e (get-before vector (g.place + 3 * n) gs q h.1 _ (g.place + 3 * i) (omega arith))
             ∙ get-store vector vector-lawful l g.place (field k g.entry) i origin (omega arith) (omega arith)
             ∙ get_or-field k g.entry i origin c,
-        each-formed _ gs q h.1 _ m e (omega arith),
+        each-formed (g.place + 3 * n) gs q h.1 _ m e (omega arith),
       )
 
   each-other : (p : ℕ) (gs : List Segment) (q : ℕ) → Spaced n p gs q → (l0 l m : List Float) → ((x : ℕ) → p ≤ x → get vector l x ≡ get vector l0 x) → m ≡ filled gs k l →
@@ -95,8 +95,8 @@ module _ (n k : ℕ) (b : k ≤ n) where
       let s : length (field k g.entry) ≡ k = length-field k g.entry in
       let stored : (x : ℕ) → g.place + 3 * k ≤ x → get vector (store vector l g.place (field k g.entry)) x ≡ get vector l0 x =
       λ x c. get-store-apart vector vector vector-lawful l g.place (field k g.entry) x (inl (omega arith)) ∙ f x (omega (arith, h.0)) in (
-        λ i c d. rw e (get-before vector _ gs q h.1 _ (g.place + 3 * i) (omega arith)) ∙ stored (g.place + 3 * i) (omega arith),
-        each-other _ gs q h.1 l0 _ m (λ x c. stored x (omega arith)) e,
+        λ i c d. rw e (get-before vector (g.place + 3 * n) gs q h.1 _ (g.place + 3 * i) (omega arith)) ∙ stored (g.place + 3 * i) (omega arith),
+        each-other (g.place + 3 * n) gs q h.1 l0 _ m (λ x c. stored x (omega arith)) e,
       )
 
 -- one camera more
@@ -104,8 +104,8 @@ filled_more : (n k : ℕ) → k < n → (p : ℕ) (gs : List Segment) (q : ℕ) 
 unfolding filled
 filled_more n k c p [] q h l = refl
 filled_more n k c p (g ∷ gs) q h l =
-    ap (put_each gs k) (sym (put-before n k (omega arith) _ gs q h.1 _ (g.place + 3 * k) (g.entry k) (omega arith)))
-    ∙ filled_more n k c _ gs q h.1 _
+    ap (put_each gs k) (sym (put-before n k (omega arith) (g.place + 3 * n) gs q h.1 _ (g.place + 3 * k) (g.entry k) (omega arith)))
+    ∙ filled_more n k c (g.place + 3 * n) gs q h.1 _
     ∙ ap (filled gs (k + 1)) (rw add-one (store-more vector vector-lawful l g.place k g.entry))
 
 -- all n cameras: the segments as fields

@@ -2,19 +2,17 @@
 use mathlib.Core.Path.{◌≡◌, refl, ap, ◌∙◌}
 use mathlib.Core.Bool.{Bool, true, false, cond}
 use mathlib.Core.List.{List}
-use Prim.Native.Nat.{ℕ, zero, suc, ◌+◌, ◌≤◌}
+use Prim.Native.Nat.{ℕ, suc, ◌+◌, ◌≤◌}
 use native.Mathlib.Omega.{arith}
-use native.Mathlib.Nat.{add-zero, add-suc}
 use native.Mathlib.Numerals.{add-one}
 use borrow.Author.Tests.{eq-eqb}
 use lib.ListN.{length}
-use lib.Dec.{eqb}
 use Rattle.field.specs.declared.Vec3.{Vec3}
 use Rattle.field.specs.declared.Place.{Place}
 use Rattle.field.specs.declared.Place.TheVariants.{At, Nowhere}
 use Rattle.field.specs.Vec.{at, origin}
-use Rattle.field.specs.Count.{field, lowest}
-use Rattle.field.proofs.Counting.{length-field, get_or-field, upto-suc, upto-invariant}
+use Rattle.field.specs.Count.{lowest}
+use Rattle.field.proofs.Counting.{length-field, get_or-field, upto-invariant}
 use Rattle.iterative.specs.Problem.{Problem, Regular}
 use Rattle.iterative.specs.Method.{State, Run, running, ended, failed, component, any, bad_curvature, bad_product, unless, inner, zero_entry, stepped_entry, precondition, start, bad_diagonal, opened}
 use Rattle.iterative.specs.Method.{moved, redirected, continued, round, next, rounds}

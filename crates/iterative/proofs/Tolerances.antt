@@ -1,10 +1,10 @@
 -- The allowed residual is no NaN where the right side's square sum is none. Assumes nothing.
 use mathlib.Core.Path.{◌≡◌, refl, ap, ◌∙◌}
-use mathlib.Core.Bool.{Bool, true, false, cond, false≢true, true≢false}
-use Prim.Native.Nat.{ℕ, zero, suc, ◌+◌, ◌*◌, ◌^◌}
+use mathlib.Core.Bool.{true, false, false≢true}
+use Prim.Native.Nat.{ℕ, zero, suc}
 use lib.IntN.{ℤ}
-use lib.Dec.{ltb, eqb-suc-zero}
-use lib.Ieee.{Float, nan, inf, fin, Format, binary64, prec, low, emax, odd, units, add, mul, of_bits, is_nan}
+use lib.Dec.{eqb-suc-zero}
+use lib.Ieee.{Float, nan, inf, fin, Format, binary64, add, mul, of_bits, is_nan}
 use Rattle.field.specs.declared.Vec3.{Vec3}
 use Rattle.field.specs.Vec.{Axis, on}
 use Rattle.field.proofs.Vectors.{on-each}

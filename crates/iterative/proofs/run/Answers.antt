@@ -19,9 +19,4 @@ conclude-requires c =
     record { links_sound = search rules; s_in_bounds = iterated-room _ _ _ _ _ _ I (started-room _ _ _ _ _ _ room S); sums_value = iterated-sums _ _ _ _ _ _ _ _ I (started-sums _ _ _ _ _ _ room S) }
 
 pub returns : goal.returns
-returns c =
-    let k = c in
-    let h = k in
-    let f = h in
-    let pre = f.requires in
-    solved-run _ _ _ _ _ _ _ _ _ _ _ _ _ pre.1.1 pre.1.0 f.start-opening.ensures h.iterate-end.ensures k.conclude.ensures
+returns c = solved-run _ _ _ _ _ _ _ _ _ _ _ _ _ c.requires.cameras_value c.requires.s_in_bounds c.start-opening.ensures c.iterate-end.ensures c.conclude.ensures
