@@ -6,4 +6,3 @@ returns-in-Failed c = search answered-failed
 
 pub returns-in-Placed : goal.returns-in-Placed
 returns-in-Placed c = search answered-placed
-

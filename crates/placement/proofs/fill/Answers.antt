@@ -7,4 +7,3 @@ returns c =
     let k = c in
     let h = k in
     record { cameras_after = cameras-filled _ _ _ _ _ h.positions_at.ensures h.requires.cameras_len.0 k.copy3.ensures; placed_after = search rules }
-

@@ -15,4 +15,3 @@ returns-in-Accepted c =
 
 pub returns : goal.returns
 returns c = search placed-refused
-

@@ -17,4 +17,3 @@ answered-requires c =
 
 pub returns : goal.returns
 returns c = search run-done
-

@@ -3,4 +3,3 @@ use Rattle.placement.proofs.checks.buffers_fit.Goals as goal
 
 pub returns : goal.returns
 returns c = search buffers-are
-

@@ -25,4 +25,3 @@ check_rows-requires c =
 pub returns : goal.returns
 unfolding submission_tests
 returns c = record { value = search submission-checked; marks_after = search left-by-rows }
-

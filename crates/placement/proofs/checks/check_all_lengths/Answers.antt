@@ -3,4 +3,3 @@ use Rattle.placement.proofs.checks.check_all_lengths.Goals as goal
 
 pub returns : goal.returns
 returns c = search lengths-are
-

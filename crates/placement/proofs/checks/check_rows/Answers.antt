@@ -7,4 +7,3 @@ returns-in-Refused c = record { value = search halts-in; marks_after = search ru
 
 pub returns : goal.returns
 returns c = record { value = search passes-in; marks_after = search rules }
-

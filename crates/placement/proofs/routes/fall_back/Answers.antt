@@ -13,4 +13,3 @@ go_dense-requires c = record { links_sound = search rules; anchor_lt_cameras = (
 
 pub returns : goal.returns
 returns c = search back-dense
-

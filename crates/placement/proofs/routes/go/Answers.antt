@@ -10,4 +10,3 @@ returns-then-route-eq1 c = search route-first
 
 pub returns : goal.returns
 returns c = search route-other
-

@@ -6,4 +6,3 @@ returns-in-Done c = search dense-done
 
 pub returns-in-Stopped : goal.returns-in-Stopped
 returns-in-Stopped c = search dense-stopped
-

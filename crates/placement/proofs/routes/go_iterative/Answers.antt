@@ -13,4 +13,3 @@ returns-in-Placed c = search iterative-placed
 
 pub returns-in-Failed : goal.returns-in-Failed
 returns-in-Failed c = search iterative-failed
-
