@@ -13,7 +13,7 @@ use Rattle.field.specs.Buffer.{load, vector}
 use Rattle.field.proofs.Buffers.{vector-lawful, length-flat, load-flat}
 use Rattle.network.specs.declared.Shape.{Shape}
 use Rattle.network.specs.declared.Verdict.TheVariants.{Passed}
-use Rattle.network.specs.Network.{graph, Network, network, rows}
+use Rattle.network.specs.Network.{graph, Network, network}
 use Rattle.network.specs.Refusals.{verdict, count_tests, length_tests, lists_fit, network_fits, end_tests, list_tests, link_tests, network_row_tests, bad_route, route_tests, dense_rows}
 use Rattle.network.proofs.Verdicts.{verdict-one, passed-test, both-passed}
 use Rattle.system.specs.Work.{work_length}

@@ -6,4 +6,3 @@ returns-then-report-ne1 c = search undone
 
 pub returns : goal.returns
 returns c = search one-done
-

@@ -6,4 +6,3 @@ returns-then-report-ne4 c = search counts-undone
 
 pub returns : goal.returns
 returns c = search solve-done
-

@@ -4,4 +4,3 @@ use Rattle.command.proofs.listing.list.Goals as goal
 
 pub list_rows-requires : goal.list_rows-requires
 list_rows-requires c = record { ends_sound = search ends-passed; offsets_len = search rules }
-

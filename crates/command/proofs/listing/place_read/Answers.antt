@@ -12,4 +12,3 @@ slice_bounds-list-end-2 c = sym (length-take-le _ _ (omega arith))
 
 pub list-requires : goal.list-requires
 list-requires c = record { small = search rules; content_sound = search rules; offsets_len = (length-take-le _ _ (omega arith), length-take-le _ _ (omega arith)) }
-

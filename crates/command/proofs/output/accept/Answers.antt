@@ -3,4 +3,3 @@ use Rattle.command.proofs.output.accept.Goals as goal
 
 pub returns : goal.returns
 returns c = search report-printed
-

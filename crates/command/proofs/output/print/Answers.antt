@@ -6,4 +6,3 @@ returns-in-Refused c = search refused-printed
 
 pub returns-in-Accepted : goal.returns-in-Accepted
 returns-in-Accepted c = search accepted-printed
-

@@ -3,4 +3,3 @@ use Rattle.command.proofs.output.refuse.Goals as goal
 
 pub returns : goal.returns
 returns c = search refusal-printed
-

@@ -12,4 +12,3 @@ returns-in-Refused c = search (parts-never, length-take-le, arith)
 
 pub returns-in-Parts : goal.returns-in-Parts
 returns-in-Parts c = search (parts-counted, length-take-le, arith)
-

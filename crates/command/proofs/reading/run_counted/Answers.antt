@@ -7,4 +7,3 @@ returns-then-s-gt64 c = search run-many
 
 pub run_small-requires : goal.run_small-requires
 run_small-requires c = record { counts_passed = search rules; small = search small }
-

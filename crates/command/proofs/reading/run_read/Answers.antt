@@ -10,4 +10,3 @@ returns-in-Refused c = search run-refused
 
 pub returns-in-Of : goal.returns-in-Of
 returns-in-Of c = search run-solved
-

@@ -6,4 +6,3 @@ run_counted-requires c = search counts-passed
 
 pub returns-in-Refused : goal.returns-in-Refused
 returns-in-Refused c = search run-uncounted
-

@@ -21,13 +21,16 @@ slice_bounds-run_sized-end-5 c = sym (length-take-le _ _ (omega arith))
 
 pub run_sized-requires : goal.run_sized-requires
 run_sized-requires c =
-    record { counts_passed = search rules; small = search rules; content_lengths = record {
-          ends = length-take-le _ _ (omega arith);
-          domain = record {
-            rays = length-take-le _ _ (omega arith);
-            weights = length-take-le _ _ (omega arith);
-            scales = length-take-le _ _ (omega arith);
-            positions = length-take-le _ _ (omega arith);
-          };
-        } }
-
+    record {
+      counts_passed = search rules;
+      small = search rules;
+      content_lengths = record {
+        ends = length-take-le _ _ (omega arith);
+        domain = record {
+          rays = length-take-le _ _ (omega arith);
+          weights = length-take-le _ _ (omega arith);
+          scales = length-take-le _ _ (omega arith);
+          positions = length-take-le _ _ (omega arith);
+        };
+      };
+    }

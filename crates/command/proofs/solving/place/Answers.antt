@@ -3,4 +3,3 @@ use Rattle.command.proofs.solving.place.Goals as goal
 
 pub returns : goal.returns
 returns c = search solved-printed
-

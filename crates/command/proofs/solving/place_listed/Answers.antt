@@ -14,15 +14,14 @@ pub slice_bounds-place-end-4 : goal.slice_bounds-place-end-4
 slice_bounds-place-end-4 c = sym (length-take-le _ _ (omega arith))
 
 pub place-requires : goal.place-requires
-place-requires c =
-    (
-      record {
-        small = search rules;
-        marks = length-take-le _ _ (omega arith);
-        work = search rules;
-        cameras = length-take-le _ _ (omega arith);
-        points = length-take-le _ _ (omega arith);
-      },
-      search rules,
-    )
-
+place-requires c = record {
+  buffers_sized = record {
+    small = search rules;
+    marks = length-take-le _ _ (omega arith);
+    work = search rules;
+    cameras = length-take-le _ _ (omega arith);
+    points = length-take-le _ _ (omega arith);
+  };
+  content_sound = search rules;
+  listed = search rules;
+}

@@ -9,11 +9,9 @@ count_parts-parts-requires c = record { graph_passed = search graph-passed; smal
 
 pub returns : goal.returns
 returns c =
-    let k = c in
-    let B = k.requires.buffers_sized in
+    let B = c.requires.buffers_sized in
     record {
       solved = search (solved, arith);
-      cameras = omega (arith, B.small.cameras-1, B.cameras-1);
+      cameras = omega (arith, B.small.cameras, B.cameras);
       points = omega (arith, B.small.points, B.points);
     }
-

@@ -3,4 +3,3 @@ use Rattle.exports.proofs.codes.put.Goals as goal
 
 pub returns : goal.returns
 returns c = search one-stored
-

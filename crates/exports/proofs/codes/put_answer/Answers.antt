@@ -6,4 +6,3 @@ returns-in-Refused c = search answer-refused
 
 pub returns-in-Accepted : goal.returns-in-Accepted
 returns-in-Accepted c = search answer-accepted
-

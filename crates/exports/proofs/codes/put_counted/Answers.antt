@@ -6,4 +6,3 @@ returns-in-Refused c = search counted-refused
 
 pub returns-in-Of : goal.returns-in-Of
 returns-in-Of c = search counted_of
-

@@ -6,4 +6,3 @@ returns-then-report-gt0 c = search earlier-refused
 
 pub returns-else-report-gt0 : goal.returns-else-report-gt0
 returns-else-report-gt0 c = search earlier-unstored
-

@@ -1,0 +1,13 @@
+use mathlib.Core.Path.{refl}
+use borrow.Author.Tests.{eqb-true}
+use Rattle.network.proofs.Sound.{counted, measured, network-fits}
+use Rattle.limits.proofs.stages.check_step.Goals as goal
+
+pub network_fits-fit-requires : goal.network_fits-fit-requires
+network_fits-fit-requires c = search counted
+
+pub check_network_rows-requires : goal.check_network_rows-requires
+check_network_rows-requires c =
+    let k = c in
+    let l = k in
+    record { shape_sound = search counted; network_lengths = network-fits _ (measured l.check_lengths-lengths.ensures k.in_default-lengths.is l.network_fits-fit.ensures); marks_len = eqb-true _ _ (measured c.check_lengths-room.ensures c.in_default-room.is refl) }
