@@ -6,7 +6,7 @@ use native.Mathlib.Numerals.{add-one}
 use native.Mathlib.Omega.{arith}
 use lib.ListN.{length}
 use lib.Ieee.{Float}
-use Rattle.field.proofs.Buffers.{get-store, load_store, load-store-apart, map_more, seen-after, seen-before, store-none, vector-lawful}
+use Rattle.field.proofs.Buffers.{get-store, map_more, seen-after, seen-before, store-none, vector-lawful}
 use Rattle.field.proofs.Counting.{get_or-field, length-field}
 use Rattle.field.specs.Buffer.{get, load, put, store, vector}
 use Rattle.field.specs.Count.{field}

@@ -1,8 +1,8 @@
 -- A vector is its numbers on the axes: each operation, seen on an axis, is that of doubles. Assumes nothing.
 use mathlib.Core.Path.{◌≡◌, refl}
-use lib.Ieee.{Float, binary64, add, sub, mul, div}
+use lib.Ieee.{Float, binary64, add, sub, mul}
 use Rattle.field.specs.declared.Vec3.{Vec3}
-use Rattle.field.specs.Vec.{Axis, X, Y, Z, on, each, null, origin, plus, minus, scale, over}
+use Rattle.field.specs.Vec.{Axis, X, Y, Z, on, each, null, origin, plus, minus, scale}
 
 pub on-each : (k : Axis) (g : Axis → Float) → on k (each g) ≡ g k
 on-each X g = refl
