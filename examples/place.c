@@ -1,7 +1,7 @@
 /*
  * Places the network image of a file by the C functions, and prints cameras and points as decimal numbers. From the root of the repository:
  *
- *   rt staticlib exports
+ *   bench/library
  *   gcc -std=c11 -O2 -o target/place examples/place.c target/staticlib/libexports.a
  *   target/place examples/healthy-strip.image
  */

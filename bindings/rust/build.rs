@@ -1,4 +1,4 @@
-//! Finds libexports.a: in VOBZEILE_LIB_DIR, else in the repository's target/staticlib, else by `rt staticlib exports`.
+//! Finds libexports.a: in VOBZEILE_LIB_DIR, else in the repository's target/staticlib, else by bench/library.
 
 use std::env;
 use std::fs;
@@ -27,7 +27,7 @@ fn fail(message: &str) -> ! {
     exit(1)
 }
 
-/// The folder of the archive, from the environment, the repository or `rt`.
+/// The folder of the archive, from the environment, or the repository's.
 fn find() -> PathBuf {
     if let Some(dir) = env::var_os("VOBZEILE_LIB_DIR") {
         let dir = PathBuf::from(dir);
@@ -46,29 +46,26 @@ fn find() -> PathBuf {
         prove(&root);
     }
     if !dir.join(ARCHIVE).is_file() {
-        fail(&format!("`rt staticlib exports` left no {ARCHIVE}"));
+        fail(&format!("bench/library left no {ARCHIVE}"));
     }
     dir
 }
 
-/// Runs `rt staticlib exports` at the root of the repository.
+/// Runs bench/library, which has `rt` make the archive.
 fn prove(root: &Path) {
     let wanted = format!(
-        "no {ARCHIVE}: run `rt staticlib exports` at the root of the repository, or set \
+        "no {ARCHIVE}: run bench/library at the root of the repository, or set \
          VOBZEILE_LIB_DIR to the folder that has it"
     );
     if !root.join("crates.txt").is_file() {
         fail(&wanted);
     }
-    let status = Command::new("rt")
-        .args(["staticlib", "exports"])
-        .current_dir(root)
-        .status();
+    let status = Command::new("bench/library").current_dir(root).status();
     match status {
         Ok(status) if status.success() => {}
-        Ok(status) => fail(&format!("`rt staticlib exports` failed ({status})")),
+        Ok(status) => fail(&format!("bench/library failed ({status})")),
         Err(error) => fail(&format!(
-            "{wanted} (`rt` could not be run from here: {error})"
+            "{wanted} (bench/library could not be run from here: {error})"
         )),
     }
 }
@@ -89,7 +86,7 @@ fn main() {
         let name = name.as_bytes();
         if !bytes.windows(name.len()).any(|window| window == name) {
             fail(&format!(
-                "{} lacks {}: build it again with `rt staticlib exports`",
+                "{} lacks {}: build it again with bench/library",
                 archive.display(),
                 String::from_utf8_lossy(name)
             ));

@@ -41,7 +41,7 @@ pub(crate) fn join_rows(s: Shape, ends: &[usize], weights: &[f64], parents: &mut
     requires graph_sound { GraphSound (graph s ends.now weights.now) }
     requires parents_len { length parents.old ≡ s.cameras + s.points }
     ensures spans { Spans (Joined (graph s ends.now weights.now)) parents.new }
-    ensures parents_len_2 { length parents.new ≡ s.cameras + s.points }
+    ensures parents_len_after { length parents.new ≡ s.cameras + s.points }
 {
     make_singletons(parents);
     let count = s.bearings + s.directions;

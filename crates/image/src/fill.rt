@@ -52,9 +52,9 @@ fn fill_doubles(bytes: &[u8], start: usize, stride: usize, group: usize, out: &m
 // Rays, weights and scales of the rows from `at` on.
 fn fill_rows(bytes: &[u8], at: usize, rays: &mut [f64], weights: &mut [f64], scales: &mut [f64])
     requires at_in_bounds { at ≤ length bytes.now }
-    requires readable { Readable (at + 8) 48 3 (length rays.old) bytes.now }
-    requires readable_2 { Readable (at + 32) 48 1 (length weights.old) bytes.now }
-    requires readable_3 { Readable (at + 40) 48 1 (length scales.old) bytes.now }
+    requires rays_readable { Readable (at + 8) 48 3 (length rays.old) bytes.now }
+    requires weights_readable { Readable (at + 32) 48 1 (length weights.old) bytes.now }
+    requires scales_readable { Readable (at + 40) 48 1 (length scales.old) bytes.now }
     ensures rays_after { rays.new ≡ doubles_from (at + 8) 48 3 (length rays.old) bytes.now }
     ensures weights_after { weights.new ≡ doubles_from (at + 32) 48 1 (length weights.old) bytes.now }
     ensures scales_after { scales.new ≡ doubles_from (at + 40) 48 1 (length scales.old) bytes.now }

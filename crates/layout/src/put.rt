@@ -33,7 +33,7 @@ fn put_double(value: f64, out: &mut [u8], at: usize)
 // `count` numbers of a list, from number `from` on, four bytes each.
 fn put_wholes(list: &[usize], from: usize, count: usize, out: &mut [u8], at: usize)
     requires count_in_bounds { from + count ≤ length list.now }
-    requires count_in_bounds_2 { at + 4 * count ≤ length out.old }
+    requires out_in_bounds { at + 4 * count ≤ length out.old }
     ensures { out.new ≡ write out.old at (wholes list.now from count) }
 {
     let mut i = 0usize;
@@ -46,7 +46,7 @@ fn put_wholes(list: &[usize], from: usize, count: usize, out: &mut [u8], at: usi
 // `count` doubles of a list, from number `from` on.
 fn put_doubles(list: &[f64], from: usize, count: usize, out: &mut [u8], at: usize)
     requires count_in_bounds { from + count ≤ length list.now }
-    requires count_in_bounds_2 { at + 8 * count ≤ length out.old }
+    requires out_in_bounds { at + 8 * count ≤ length out.old }
     ensures { out.new ≡ write out.old at (doubles list.now from count) }
 {
     let mut i = 0usize;
@@ -78,7 +78,7 @@ fn put_row(
     at: usize,
 )
     requires r_in_bounds { (2 * r + 2 ≤ length ends.now) × (3 * r + 3 ≤ length rays.now) }
-    requires r_in_bounds_2 { (r + 1 ≤ length weights.now) × (r + 1 ≤ length scales.now) }
+    requires weights_in_bounds { (r + 1 ≤ length weights.now) × (r + 1 ≤ length scales.now) }
     requires at_in_bounds { at + 48 ≤ length out.old }
     ensures { out.new ≡ write out.old at
         (row_bytes ends.now rays.now weights.now scales.now r) }
@@ -99,8 +99,8 @@ fn put_rows(
     at: usize,
 )
     requires count_in_bounds { (2 * count ≤ length ends.now) × (3 * count ≤ length rays.now) }
-    requires count_in_bounds_2 { (count ≤ length weights.now) × (count ≤ length scales.now) }
-    requires count_in_bounds_3 { at + 48 * count ≤ length out.old }
+    requires weights_in_bounds { (count ≤ length weights.now) × (count ≤ length scales.now) }
+    requires out_in_bounds { at + 48 * count ≤ length out.old }
     ensures { out.new ≡ write out.old at
         (run count (row_bytes ends.now rays.now weights.now scales.now)) }
 {
@@ -123,7 +123,7 @@ fn put_pair(offset: usize, size: usize, out: &mut [u8], at: usize)
 // The pairs of sections of these sizes, the first of which starts at `start`.
 fn put_pairs(start: usize, sizes: &[usize], out: &mut [u8], at: usize)
     requires sizes_in_bounds { start + total sizes.now ≤ length out.old }
-    requires sizes_in_bounds_2 { at + 8 * length sizes.now ≤ length out.old }
+    requires out_in_bounds { at + 8 * length sizes.now ≤ length out.old }
     ensures { out.new ≡ write out.old at (pairs start sizes.now) }
 {
     let mut offset = start;

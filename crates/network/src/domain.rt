@@ -69,8 +69,8 @@ pub fn find_bad_vector(s: &[f64], count: usize) -> Place
 // The weight, scale or ray of row r is outside the domain.
 fn bad_row_at(weights: &[f64], scales: &[f64], rays: &[f64], r: usize) -> bool
     requires r_in_bounds { r < length weights.now }
-    requires r_in_bounds_2 { r < length scales.now }
-    requires r_in_bounds_3 { 3 * r + 3 ≤ length rays.now }
+    requires scales_in_bounds { r < length scales.now }
+    requires rays_in_bounds { 3 * r + 3 ≤ length rays.now }
     ensures { result ≡ bad_row weights.now scales.now rays.now r }
 {
     either(
@@ -82,8 +82,8 @@ fn bad_row_at(weights: &[f64], scales: &[f64], rays: &[f64], r: usize) -> bool
 // The lowest of `count` rows that is outside the domain.
 fn find_bad_row(weights: &[f64], scales: &[f64], rays: &[f64], count: usize) -> Place
     requires count_in_bounds { count ≤ length weights.now }
-    requires count_in_bounds_2 { count ≤ length scales.now }
-    requires count_in_bounds_3 { 3 * count ≤ length rays.now }
+    requires scales_in_bounds { count ≤ length scales.now }
+    requires rays_in_bounds { 3 * count ≤ length rays.now }
     ensures { result ≡ lowest (bad_row weights.now scales.now rays.now) count }
 {
     let mut r = 0usize;

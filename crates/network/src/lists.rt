@@ -47,7 +47,7 @@ fn mark_row(
     requires k_in_bounds { k < length listed.now }
     requires marked { Marked b listed.now true k marks.old }
     ensures value { result ≡ not (unfit b ends.now listed.now p k) }
-    ensures marked_2 { Marked b listed.now result (k + 1) marks.new }
+    ensures marked_after { Marked b listed.now result (k + 1) marks.new }
 {
     let row = listed[k];
     if b <= row {
@@ -77,7 +77,7 @@ fn mark_list(
     requires size_in_bounds { start + size ≤ length listed.now }
     requires marked { Marked b listed.now true start marks.old }
     ensures value { result ≡ none (λ i. unfit b ends.now listed.now p (start + i)) size }
-    ensures marked_2 { Marked b listed.now result (start + size) marks.new }
+    ensures marked_after { Marked b listed.now result (start + size) marks.new }
 {
     let mut i = 0usize;
     while i < size {
@@ -104,7 +104,7 @@ fn mark_point(
     requires p_bound { (get_or offsets.now p 0 ≤ get_or offsets.now (p + 1) 0) × (get_or offsets.now (p + 1) 0 ≤ b) }
     requires marked { Marked b listed.now true (get_or offsets.now p 0) marks.old }
     ensures value { result ≡ not (has_unfit b ends.now offsets.now listed.now p) }
-    ensures marked_2 { Marked b listed.now result (get_or offsets.now (p + 1) 0) marks.new }
+    ensures marked_after { Marked b listed.now result (get_or offsets.now (p + 1) 0) marks.new }
 {
     let start = offsets[p];
     let size = offsets[p + 1] - start;

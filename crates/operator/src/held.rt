@@ -1,6 +1,5 @@
 // The operator as a struct that holds the lent work buffer, in which the effective weights and the point weights stand, thin over the
-// core on plain slices (document 01, 'Where the Rust's shape cannot stay'). The borrow checker covers no function that takes or makes
-// such a struct: `ReducedOperator::apply` and `apply` are proved by hand. Whoever calls `apply` needs no such proof.
+// core on plain slices (document 01, 'Where the Rust's shape cannot stay').
 ghost use Rattle.std.specs.Prelude.{◌≡◌, length};
 ghost use Rattle.network.specs.Network.{links};
 ghost use Rattle.network.specs.inner.Sound.{LinksSound};

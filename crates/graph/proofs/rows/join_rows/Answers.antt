@@ -6,4 +6,4 @@ pub loop-r-init : goal.loop-r-init
 loop-r-init c = (omega arith, omega arith, search spans-none)
 
 pub returns : goal.returns
-returns c = record { spans = spans_all c.loop-r.invariant.2 (omega arith); parents_len_2 = omega arith }
+returns c = record { spans = spans_all c.loop-r.invariant.2 (omega arith); parents_len_after = omega arith }

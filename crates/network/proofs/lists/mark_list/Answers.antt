@@ -12,16 +12,16 @@ pub mark_row-requires : goal.mark_row-requires
 mark_row-requires c = record { b_in_bounds = omega arith; k_in_bounds = omega arith; marked = c.loop-i.invariant.2 }
 
 pub returns-then-not-mark_row : goal.returns-then-not-mark_row
-returns-then-not-mark_row c = record { value = none-not _ _ _ c.mark_row.ensures.value (ap not c.if-not-mark_row.true) (omega arith); marked_2 = marks-fail _ c.mark_row.ensures.marked_2 }
+returns-then-not-mark_row c = record { value = none-not _ _ _ c.mark_row.ensures.value (ap not c.if-not-mark_row.true) (omega arith); marked_after = marks-fail _ c.mark_row.ensures.marked_after }
 
 pub loop-i-preserved : goal.loop-i-preserved
 loop-i-preserved c = (
   omega arith,
   none_more _ _ c.loop-i.invariant.1 c.mark_row.ensures.value (ap not c.if-not-mark_row.false),
-  marks-at c.mark_row.ensures.marked_2 c.if-not-mark_row.false (omega arith),
+  marks-at c.mark_row.ensures.marked_after c.if-not-mark_row.false (omega arith),
 )
 
 pub returns : goal.returns
 returns c =
     let e : c.loop-i.i ≡ c.args.size = omega arith in
-    record { value = sym (rw e at c.loop-i.invariant.1); marked_2 = marks-at c.loop-i.invariant.2 refl (omega arith) }
+    record { value = sym (rw e at c.loop-i.invariant.1); marked_after = marks-at c.loop-i.invariant.2 refl (omega arith) }

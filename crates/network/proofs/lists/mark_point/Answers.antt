@@ -8,4 +8,4 @@ pub mark_list-requires : goal.mark_list-requires
 mark_list-requires c = record { b_in_bounds = omega arith; size_in_bounds = omega arith; marked = c.requires.marked }
 
 pub returns : goal.returns
-returns c = record { value = list-fit _ _ _ _ _ c.mark_list.ensures.value; marked_2 = marks-at c.mark_list.ensures.marked_2 refl (omega arith) }
+returns c = record { value = list-fit _ _ _ _ _ c.mark_list.ensures.value; marked_after = marks-at c.mark_list.ensures.marked_after refl (omega arith) }

@@ -15,13 +15,13 @@ mark_point-requires c =
     record { b_in_bounds = omega arith; listed_len = omega arith; p_in_bounds = omega (arith, o.size); p_bound = (o.rises c.loop-p.p (omega arith), o.within (c.loop-p.p + 1) (omega arith)); marked = c.loop-p.invariant.2 }
 
 pub returns-then-not-mark_point : goal.returns-then-not-mark_point
-returns-then-not-mark_point c = record { value = none-not _ _ _ c.mark_point.ensures.value (ap not c.if-not-mark_point.true) (omega arith); marks_len = c.mark_point.ensures.marked_2.size }
+returns-then-not-mark_point c = record { value = none-not _ _ _ c.mark_point.ensures.value (ap not c.if-not-mark_point.true) (omega arith); marks_len = c.mark_point.ensures.marked_after.size }
 
 pub loop-p-preserved : goal.loop-p-preserved
 loop-p-preserved c = (
   omega arith,
   none_more _ _ c.loop-p.invariant.1 c.mark_point.ensures.value (ap not c.if-not-mark_point.false),
-  marks-at c.mark_point.ensures.marked_2 c.if-not-mark_point.false refl,
+  marks-at c.mark_point.ensures.marked_after c.if-not-mark_point.false refl,
 )
 
 pub returns : goal.returns
