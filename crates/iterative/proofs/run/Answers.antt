@@ -4,18 +4,15 @@ use Rattle.iterative.proofs.run.Goals as goal
 
 pub iterate-end-requires : goal.iterate-end-requires
 iterate-end-requires c =
-    let h = c in
-    let S = h.start-opening.ensures in
-    let room = h.requires.s_in_bounds in
+    let S = c.start-opening.ensures in
+    let room = c.requires.s_in_bounds in
     record { links_sound = search rules; s_in_bounds = started-room _ _ _ _ _ _ room S; sums_value = started-sums _ _ _ _ _ _ room S; count_value = S.count }
 
 pub conclude-requires : goal.conclude-requires
 conclude-requires c =
-    let k = c in
-    let h = k in
-    let S = h.start-opening.ensures in
-    let I = k.iterate-end.ensures in
-    let room = h.requires.s_in_bounds in
+    let S = c.start-opening.ensures in
+    let I = c.iterate-end.ensures in
+    let room = c.requires.s_in_bounds in
     record { links_sound = search rules; s_in_bounds = iterated-room _ _ _ _ _ _ I (started-room _ _ _ _ _ _ room S); sums_value = iterated-sums _ _ _ _ _ _ _ _ I (started-sums _ _ _ _ _ _ room S) }
 
 pub returns : goal.returns

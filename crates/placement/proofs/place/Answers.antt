@@ -7,11 +7,8 @@ fill-requires c = record { links_sound = search checked-links; rows_there = sear
 
 pub returns-in-Accepted : goal.returns-in-Accepted
 returns-in-Accepted c =
-    let k = c in
-    let h = k in
-    let f = h in
-    placed-accepted _ _ _ _ _ _ _ _ _ _ _ _ _ _ _ f.requires.checked f.run-answer.ensures _ _ _
-    h.in-Accepted.is k.fill.ensures.cameras_after k.fill.ensures.placed_after
+    placed-accepted _ _ _ _ _ _ _ _ _ _ _ _ _ _ _ c.requires.checked c.run-answer.ensures _ _ _
+    c.in-Accepted.is c.fill.ensures.cameras_after c.fill.ensures.placed_after
 
 pub returns : goal.returns
 returns c = search placed-refused

@@ -10,10 +10,8 @@ go-ended-requires c = record { links_sound = search checked-links; route_ready =
 
 pub answered-requires : goal.answered-requires
 answered-requires c =
-    let g = c in
-    let f = g in
-    let C = f.requires in
-    record { shape_sound = search rules; s_in_bounds = formed-room _ _ _ _ _ _ _ _ _ _ _ _ _ f.form-anchor.ensures C _ _ _ g.go-ended.ensures }
+    let C = c.requires in
+    record { shape_sound = search rules; s_in_bounds = formed-room _ _ _ _ _ _ _ _ _ _ _ _ _ c.form-anchor.ensures C _ _ _ c.go-ended.ensures }
 
 pub returns : goal.returns
 returns c = search run-done

@@ -10,8 +10,7 @@ returns-then-root-ne0 c = search zero-not
 
 pub loop-c-preserved : goal.loop-c-preserved
 loop-c-preserved c =
-    let k = c in
-    (omega arith, zero_more k.loop-c.invariant.1 k.root.ensures (omega arith) c.if-root-ne0.false)
+    (omega arith, zero_more c.loop-c.invariant.1 c.root.ensures (omega arith) c.if-root-ne0.false)
 
 pub returns : goal.returns
 returns c = search (zero-all, arith)

@@ -8,8 +8,7 @@ loop-i-init c = (omega arith, search opened-none, refl)
 
 pub loop-i-preserved : goal.loop-i-preserved
 loop-i-preserved c =
-    let k = c in
-    (omega arith, opened-more _ _ _ _ (omega arith) _ _ _ k.loop-i.invariant.1 _ _ _ k.open_camera-sums.ensures, omega arith)
+    (omega arith, opened-more _ _ _ _ (omega arith) _ _ _ c.loop-i.invariant.1 _ _ _ c.open_camera-sums.ensures, omega arith)
 
 pub returns : goal.returns
 returns c = search opened-ended

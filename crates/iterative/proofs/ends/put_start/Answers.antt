@@ -3,11 +3,6 @@ use Rattle.iterative.proofs.ends.put_start.Goals as goal
 
 pub returns : goal.returns
 returns c =
-    let k5 = c in
-    let k4 = k5 in
-    let k3 = k4 in
-    let k2 = k3 in
-    let k1 = k2 in
-    put-started _ _ _ _ _ _ _ _ _ _ _ _ _ _ _ _ k1.requires.0 k1.positions_at.ensures k2.right_at.ensures
-    k3.residual_at.ensures k4.preconditioned_at.ensures k5.search_at.ensures k1.zero.ensures k1.put3.ensures
-    k2.put3-2.ensures k3.put3-3.ensures k4.put3-4.ensures k5.put3-5.ensures
+    put-started _ _ _ _ _ _ _ _ _ _ _ _ _ _ _ _ c.requires.0 c.positions_at.ensures c.right_at.ensures
+    c.residual_at.ensures c.preconditioned_at.ensures c.search_at.ensures c.zero.ensures c.put3.ensures
+    c.put3-2.ensures c.put3-3.ensures c.put3-4.ensures c.put3-5.ensures

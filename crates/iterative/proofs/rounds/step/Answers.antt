@@ -6,9 +6,5 @@ returns-in-At c = search step-failed
 
 pub returns-in-Nowhere : goal.returns-in-Nowhere
 returns-in-Nowhere c =
-    let k = c in
-    let h = k in
-    let g = h in
-    let f = g in
-    step-done _ _ _ f.requires.fields_fit _ _ _ _ _ f.search_at.ensures g.applied_at.ensures g.field_dot-curvature.ensures g.find_bad_curvature-place.ensures
-    _ _ _ _ h.in-Nowhere.is h.move_along-t.ensures k.go_on.ensures
+    step-done _ _ _ c.requires.fields_fit _ _ _ _ _ c.search_at.ensures c.applied_at.ensures c.field_dot-curvature.ensures c.find_bad_curvature-place.ensures
+    _ _ _ _ c.in-Nowhere.is c.move_along-t.ensures c.go_on.ensures

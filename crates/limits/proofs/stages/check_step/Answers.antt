@@ -8,6 +8,4 @@ network_fits-fit-requires c = search counted
 
 pub check_network_rows-requires : goal.check_network_rows-requires
 check_network_rows-requires c =
-    let k = c in
-    let l = k in
-    record { shape_sound = search counted; network_lengths = network-fits _ (measured l.check_lengths-lengths.ensures k.in_default-lengths.is l.network_fits-fit.ensures); marks_len = eqb-true _ _ (measured c.check_lengths-room.ensures c.in_default-room.is refl) }
+    record { shape_sound = search counted; network_lengths = network-fits _ (measured c.check_lengths-lengths.ensures c.in_default-lengths.is c.network_fits-fit.ensures); marks_len = eqb-true _ _ (measured c.check_lengths-room.ensures c.in_default-room.is refl) }

@@ -5,8 +5,7 @@ use Rattle.operator.proofs.short.three_step.Goals as goal
 
 pub returns : goal.returns
 returns c =
-    let d = c in
-    both_stored d.args.work.now _ _ d.args.into d.args.n _ _ (two-kept _ _ _ _) (one_kept _ _ _) c.two_gain.ensures
+    both_stored c.args.work.now _ _ c.args.into c.args.n _ _ (two-kept _ _ _ _) (one_kept _ _ _) c.two_gain.ensures
     c.push.ensures (omega arith) ∙ rw (
       c.div-u.ensures,
       c.added.ensures,

@@ -4,6 +4,5 @@ use Rattle.operator.proofs.short.two_gain.Goals as goal
 
 pub returns : goal.returns
 returns c =
-    let d = c in
-    both_stored d.args.work.now _ _ d.args.into d.args.n _ _ (one_kept _ _ _) (one_kept _ _ _) c.push.ensures
+    both_stored c.args.work.now _ _ c.args.into c.args.n _ _ (one_kept _ _ _) (one_kept _ _ _) c.push.ensures
     c.push-2.ensures (omega arith)

@@ -7,8 +7,7 @@ returns-then-found-least c = search number_short
 
 pub overflow_add-result : goal.overflow_add-result
 overflow_add-result c =
-    let b = c in
-    omega (arith, number-ends _ _ b.args.input.now _ b.step-start.result _ _ b.rest.ensures c.read_digits-found.ensures)
+    omega (arith, number-ends _ _ c.args.input.now _ c.step-start.result _ _ c.rest.ensures c.read_digits-found.ensures)
 
 pub returns : goal.returns
 returns c = search number_is
