@@ -60,7 +60,7 @@ fn prove(root: &Path) {
     if !root.join("crates.txt").is_file() {
         fail(&wanted);
     }
-    let status = Command::new("bench/library").current_dir(root).status();
+    let status = Command::new(root.join("bench/library")).status();
     match status {
         Ok(status) if status.success() => {}
         Ok(status) => fail(&format!("bench/library failed ({status})")),

@@ -159,8 +159,8 @@ module _ {ℓ} {A : Type ℓ} where
   pub length_part : (l : List A) (p n : ℕ) → p + n ≤ length l → length (part l p n) ≡ n
   length_part l p n h = let e : length (drop p l) ≡ length l - p = length-drop p l in length-take-le n (drop p l) (omega arith)
 
-  pub get_d_part : (l : List A) (p n i : ℕ) (d : A) → i < n → get_or (part l p n) i d ≡ get_or l (p + i) d
-  get_d_part l p n i d h = get_or-take n (drop p l) i d h ∙ get_or-drop p l i d
+  pub get_or-part : (l : List A) (p n i : ℕ) (d : A) → i < n → get_or (part l p n) i d ≡ get_or l (p + i) d
+  get_or-part l p n i d h = get_or-take n (drop p l) i d h ∙ get_or-drop p l i d
 
   -- a part as Rattle lends it, `l[a..b]`
   pub slice-part : (a b : ℕ) (l : List A) → drop a (take b l) ≡ part l a (b - a)
@@ -500,7 +500,7 @@ module _ {A B : Type 0} (J : Cell A) (U : Lawful J) (K : Cell B) (W : Lawful K) 
 
 pub get-number : (l : List Float) (p : ℕ) → get number l p ≡ get_or l p nan
 unfolding get
-get-number l p = get_d_part l p 1 0 nan (omega arith) ∙ rw add-zero
+get-number l p = get_or-part l p 1 0 nan (omega arith) ∙ rw add-zero
 
 pub put-number : (l : List Float) (p : ℕ) (a : Float) → put number l p a ≡ set l p a
 unfolding put
@@ -525,9 +525,9 @@ store-number l p f = rw flat-number
 pub get-vector : (l : List Float) (p : ℕ) → get vector l p ≡ record { x = get_or l p nan; y = get_or l (p + 1) nan; z = get_or l (p + 2) nan }
 unfolding get
 get-vector l p =
-    let a : get_or (part l p 3) 0 nan ≡ get_or l p nan = get_d_part l p 3 0 nan (omega arith) ∙ rw add-zero in
-    let b : get_or (part l p 3) 1 nan ≡ get_or l (p + 1) nan = get_d_part l p 3 1 nan (omega arith) in
-    let c : get_or (part l p 3) 2 nan ≡ get_or l (p + 2) nan = get_d_part l p 3 2 nan (omega arith) in
+    let a : get_or (part l p 3) 0 nan ≡ get_or l p nan = get_or-part l p 3 0 nan (omega arith) ∙ rw add-zero in
+    let b : get_or (part l p 3) 1 nan ≡ get_or l (p + 1) nan = get_or-part l p 3 1 nan (omega arith) in
+    let c : get_or (part l p 3) 2 nan ≡ get_or l (p + 2) nan = get_or-part l p 3 2 nan (omega arith) in
     λ i. record { x = a i; y = b i; z = c i }
 
 pub put_vector : (l : List Float) (p : ℕ) (v : Vec3) → put vector l p v ≡ set (set (set l p v.x) (p + 1) v.y) (p + 2) v.z

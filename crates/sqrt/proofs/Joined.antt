@@ -27,7 +27,7 @@ rooted b m x k d q s t K lo hi e =
           (root-positive binary64 z (positive_of_value z (m * 2 ^ x) (2 ^ 2096) s.value pos)
           ∙ by-certificate binary64 (num z) (den z) (d * 2 ^ 52) k q (den_pos z)
           (regroup (num z) (den z) (m * 2 ^ x) d (4 ^ k) (2 ^ 2096) (2 ^ 52) (value→cross z (m * 2 ^ x) (2 ^ 2096) s.value) e)
-          (mul-le-mul_right (2 ^ 52) lo) (mul-lt-mul_of_pos_right hi (pow_pos 52)) t.not-less t.not_more);
+          (mul-le-mul_right (2 ^ 52) lo) (mul-lt-mul_of_pos_right hi (pow_pos 52)) t.not_less t.not_more);
     }
   where
     most : (q k : ℕ) → q < 2 ^ 53 → k < 2045 → k * 2 ^ 52 + q < 0x7ff0_0000_0000_0000

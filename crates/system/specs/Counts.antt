@@ -2,7 +2,7 @@
 -- always', in whole numbers.
 --
 -- For planners: a camera with a count under 2 is held by one row or none; `few` is how many there are. A row that is given twice counts twice, as it
--- is added twice. Proved: `row_Counts` of proofs/Counts.
+-- is added twice. Proved: `row_counts` of proofs/Counts.
 use Rattle.std.specs.Prelude.{ℕ, ◌+◌, ◌*◌, ◌<◌, ◌≡◌, Bool, cond, not, ◌&&◌, eqb, ltb, pos}
 use Rattle.std.specs.Float.{binary64}
 use Rattle.std.specs.Float.Ieee.{lt, of_int}
