@@ -13,7 +13,7 @@ use Rattle.field.specs.Vec.{at, origin, plus, scale, over}
 use Rattle.field.specs.Count.{field}
 use Rattle.field.specs.Buffer.{part, get, put, load, store, flat, vector}
 use Rattle.field.proofs.Counting.{length-field, get_or-field, field-ext, upto-ext}
-use Rattle.field.proofs.Buffers.{get_d_part, at_load, vector-lawful, map_more, store-whole}
+use Rattle.field.proofs.Buffers.{get_or-part, at_load, vector-lawful, map_more, store-whole}
 use Rattle.network.specs.declared.Shape.{Shape}
 use Rattle.network.specs.declared.Span.{Span}
 use Rattle.network.specs.Network.{Network, network, links, links_of, rows, first_end, span, span_of, row_of}
@@ -68,7 +68,7 @@ module _ (l : List Float) (g : ℕ → Vec3) where
 
 -- an element of a part that is a field
 read-field : (l : List Float) (p n : ℕ) (g : ℕ → Float) (i : ℕ) → part l p n ≡ field n g → i < n → get_or l (p + i) nan ≡ g i
-read-field l p n g i e h = sym (get_d_part l p n i nan h) ∙ ap (λ (t : List Float). get_or t i nan) e ∙ get_or-field n g i nan h
+read-field l p n g i e h = sym (get_or-part l p n i nan h) ∙ ap (λ (t : List Float). get_or t i nan) e ∙ get_or-field n g i nan h
 
 module _ (net : Network) (t : List CameraTerm) (l : List Float) (cs : List Vec3) (L : LinksSound (links_of net)) (S : Segments net.shape (weights_of net) t l) where
   abbrev held : Weights

@@ -12,7 +12,7 @@ use lib.Ieee.{Float, nan}
 use Rattle.field.specs.Count.{field}
 use Rattle.field.specs.Buffer.{Cell, part, get, flat, load, store, number, vector}
 use Rattle.field.proofs.Counting.{length-field, get_or-field, upto-ext}
-use Rattle.field.proofs.Buffers.{Apart, Lawful, get_d_part, at_load, part_apart, part_same, length-flat, length-store, load_store, drop-store, store-number}
+use Rattle.field.proofs.Buffers.{Apart, Lawful, get_or-part, at_load, part_apart, part_same, length-flat, length-store, load_store, drop-store, store-number}
 use Rattle.field.proofs.Buffers.{number-lawful, vector-lawful}
 use Rattle.network.specs.declared.Shape.{Shape}
 use Rattle.network.specs.Network.{rows, second_end, links}
@@ -29,7 +29,7 @@ use Rattle.system.proofs.Terms.{term-lawful}
 
 -- a number of a segment that holds g 0, .. g (n - 1)
 pub held_at : (l : List Float) (p n i : ℕ) (g : ℕ → Float) → part l p n ≡ field n g → i < n → get_or l (p + i) nan ≡ g i
-held_at l p n i g e h = sym (get_d_part l p n i nan h) ∙ ap (λ (t : List Float). get_or t i nan) e ∙ get_or-field n g i nan h
+held_at l p n i g e h = sym (get_or-part l p n i nan h) ∙ ap (λ (t : List Float). get_or t i nan) e ∙ get_or-field n g i nan h
 
 -- a value
 pub loaded_at : {A : Type 0} (K : Cell A) (l : List Float) (p n i : ℕ) (g : ℕ → A) → load K l p n ≡ field n g → i < n → get K l (p + K.width * i) ≡ g i

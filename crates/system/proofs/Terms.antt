@@ -14,7 +14,7 @@ use Rattle.field.specs.Count.{field, indicator}
 use Rattle.field.specs.Buffer.{Cell, part, write, get, put, flat, load, store, vector}
 use Rattle.field.proofs.Counting.{field-zero, field-suc}
 use Rattle.field.proofs.Sums.{count_none, count-more}
-use Rattle.field.proofs.Buffers.{Lawful, at_load, get_d_part, get-part, get-vector, write-sets, filled-write, flat_append}
+use Rattle.field.proofs.Buffers.{Lawful, at_load, get_or-part, get-part, get-vector, write-sets, filled-write, flat_append}
 use Rattle.system.specs.declared.CameraTerm.{CameraTerm}
 use Rattle.system.specs.System.{tiny, one, two, no_term, term_at, degree_at, reduced_weight, sees, joins, departs, arrives}
 use Rattle.system.specs.Work.{term, term_place}
@@ -63,7 +63,7 @@ pub get-term : (l : List Float) (p : ℕ) → get term l p ≡ term_of (get_or l
 unfolding get
 get-term l p =
     let w = part l p 6 in
-    let at : (i : ℕ) → i < 6 → get_or w i nan ≡ get_or l (p + i) nan = λ i h. get_d_part l p 6 i nan h in
+    let at : (i : ℕ) → i < 6 → get_or w i nan ≡ get_or l (p + i) nan = λ i h. get_or-part l p 6 i nan h in
     let a : get_or w 0 nan ≡ get_or l p nan = at 0 (omega arith) ∙ rw add-zero in
     let e : record { x = get_or w 1 nan; y = get_or w 2 nan; z = get_or w 3 nan } ≡ get vector l (p + 1) = sym (get-vector w 1) ∙ get-part vector l p 6 1 (omega arith) in
     let c = at 4 (omega arith) in
