@@ -13,9 +13,10 @@ use Rattle.field.specs.Vec.{null}
 use Rattle.field.specs.Count.{upto}
 use Rattle.field.proofs.Counting.{upto-suc, upto-ext}
 use Rattle.sqrt.specs.Root.{root}
-use Rattle.cholesky.specs.declared.Solve.{Solve}
-use Rattle.cholesky.specs.declared.Solve.TheVariants.{Done, Stopped}
-use Rattle.cholesky.specs.Cholesky.{done, stopped, ended, entry, inner_step, remainder, factor_entry, pivot}
+use Rattle.std.proofs.Common.{Result, Ok, Err}
+use Rattle.cholesky.specs.declared.Breakdown.{Breakdown}
+use Rattle.cholesky.specs.declared.Breakdown.TheVariants.{Pivot, Factor}
+use Rattle.cholesky.specs.Cholesky.{ended, entry, inner_step, remainder, factor_entry, pivot}
 use Rattle.cholesky.specs.inner.Stages.{off, Outside, reduced, left, Reduces, Continues, Made, RowFinite, FactorCells, positive}
 use Rattle.cholesky.specs.inner.Stages.{RowReady, RowEnds, RowsReady, RowsDone, RowFinished, RowsFinished}
 use Rattle.cholesky.proofs.Places.{through}
@@ -31,18 +32,12 @@ pub and-false : (a b r : Bool) → r ≡ a → r ≡ false → r ≡ (a && b)
 and-false a b r e t = rw (sym e ∙ t, t)
 
 module _ (d : ℕ) where
-  pub remainder-none : (A : List Float) (i j from : ℕ) (v : Float) → v ≡ entry d A i j → Reduces d A i j from from v
-  remainder-none A i j from v e = record { value = λ u f. e ∙ f }
-
   pub remainder-more : (A : List Float) (i j from k : ℕ) (v x y : Float) →
       Reduces d A i j from k v →
       x ≡ entry d A i k →
       y ≡ entry d A j k →
       Reduces d A i j from (k + 1) (off v x y)
   remainder-more A i j from k v x y r f g = record { value = λ u e. rw (r.value u e, f, g, add-one, upto-suc) }
-
-  pub remainder-ended : (A : List Float) (i j from k : ℕ) (v : Float) → Reduces d A i j from k v → j ≤ k → k ≤ j → Reduces d A i j from j v
-  remainder-ended A i j from k v r h g = let e : k ≡ j = omega arith in rw e at r
 
   -- the matrix with the cell as it was, u
   restored : (A : List Float) (i j : ℕ) (u : Float) → length A ≡ d * d → j ≤ i → i < d → reduced d A i j j u ≡ remainder d (set A (i * d + j) u) i j
@@ -64,7 +59,7 @@ module _ (d : ℕ) where
       v ≡ reduced d A i j j u →
       w ≡ entry d A j j →
       finite (div binary64 v w) ≡ b →
-      factor_entry d i j (set A (i * d + j) u) ≡ cond b (done (set A (i * d + j) (div binary64 v w))) (stopped 16 i)
+      factor_entry d i j (set A (i * d + j) u) ≡ cond b (Ok (set A (i * d + j) (div binary64 v w))) (Err (Factor i))
   restored-entry i j A u v w b hl hj hi e g f =
       entry-step d i j (set A (i * d + j) u) v w b
       (e ∙ restored A i j u hl (omega arith) hi)
@@ -77,38 +72,35 @@ module _ (d : ℕ) where
       i < d →
       v ≡ reduced d A i i i u →
       (finite v && lt null v) ≡ b →
-      pivot d i (set A (i * d + i) u) ≡ cond b (done (set A (i * d + i) (root binary64 v))) (stopped 15 i)
+      pivot d i (set A (i * d + i) u) ≡ cond b (Ok (set A (i * d + i) (root binary64 v))) (Err (Pivot i))
   restored-pivot i A u v b hl hi e f = pivot-step d i (set A (i * d + i) u) v b (e ∙ restored A i i u hl (omega arith) hi) f ∙ rw set-set refl
 
   module _ (A : List Float) (i j from : ℕ) (hl : length A ≡ d * d) (hj : j < i) (hi : i < d)
       (v w : Float) (rem : Reduces d A i j from j v) (by : w ≡ entry d A j j) (b : Bool) (test : b ≡ finite (div binary64 v w)) where
-    pub entry_done : (B : List Float) → b ≡ true → B ≡ set A (i * d + j) (div binary64 v w) → Continues d (factor_entry d i j) A i j from Done B
+    pub entry_done : (B : List Float) → b ≡ true → B ≡ set A (i * d + j) (div binary64 v w) → Continues d (factor_entry d i j) A i j from (Ok tt) B
     entry_done B t e = record { answer = λ u f. rw e (sym (restored-entry i j A u v w true hl hj hi (rem.value u f) by (sym test ∙ t))) }
 
-    pub entry-stopped : b ≡ false → Continues d (factor_entry d i j) A i j from (Stopped 16 i) A
+    pub entry-stopped : b ≡ false → Continues d (factor_entry d i j) A i j from (Err (Factor i)) A
     entry-stopped t = record { answer = λ u f. sym (restored-entry i j A u v w false hl hj hi (rem.value u f) by (sym test ∙ t)) }
 
   module _ (A : List Float) (i from : ℕ) (hl : length A ≡ d * d) (hi : i < d)
       (v : Float) (rem : Reduces d A i i from i v) (b : Bool) (test : b ≡ (finite v && lt null v)) where
-    pub pivot-done : (x : Float) (B : List Float) → b ≡ true → x ≡ root binary64 v → B ≡ set A (i * d + i) x → Continues d (pivot d i) A i i from Done B
+    pub pivot-done : (x : Float) (B : List Float) → b ≡ true → x ≡ root binary64 v → B ≡ set A (i * d + i) x → Continues d (pivot d i) A i i from (Ok tt) B
     pivot-done x B t g e = record { answer = λ u f. rw (e, g) (sym (restored-pivot i A u v true hl hi (rem.value u f) (sym test ∙ t))) }
 
-    pub pivot-stopped : b ≡ false → Continues d (pivot d i) A i i from (Stopped 15 i) A
+    pub pivot-stopped : b ≡ false → Continues d (pivot d i) A i i from (Err (Pivot i)) A
     pivot-stopped t = record { answer = λ u f. sym (restored-pivot i A u v false hl hi (rem.value u f) (sym test ∙ t)) }
 
 -- what an answer tells of its test
-record Answered (b : Bool) (r : Solve) (C D : List Float) (n i : ℕ) : Type 0 where
-  done : r ≡ Done → (C ≡ D) × (b ≡ true)
-  stopped : (k q : ℕ) → r ≡ Stopped k q → (k ≡ n) × (q ≡ i) × (b ≡ false)
+record Answered (b : Bool) (r : Result (Unit {0}) Breakdown) (C D : List Float) (k : Breakdown) : Type 0 where
+  done : r ≡ Ok tt → (C ≡ D) × (b ≡ true)
+  stopped : (q : Breakdown) → r ≡ Err q → (q ≡ k) × (b ≡ false)
 
-pub never : {P : Type 0} (r : Solve) (k q : ℕ) → r ≡ Done → r ≡ Stopped k q → P
-never r k q e f = let z : ◌≡◌ {A = ℕ} 0 1 = cc in absurd (omega arith)
-
-answered : (b : Bool) (r : Solve) (C D : List Float) (n i : ℕ) → ended r C ≡ cond b (done D) (stopped n i) → Answered b r C D n i
-answered true Done C D n i e = record { done = λ f. (cc, refl); stopped = λ k q f. never Done k q refl f }
-answered true (Stopped k q) C D n i e = let z : ◌≡◌ {A = ℕ} 0 1 = cc e in absurd (omega arith)
-answered false Done C D n i e = let z : ◌≡◌ {A = ℕ} 0 1 = cc e in absurd (omega arith)
-answered false (Stopped k q) C D n i e = record { done = λ f. never (Stopped k q) k q f refl; stopped = λ k' q' f. (cc, cc, refl) }
+answered : (b : Bool) (r : Result (Unit {0}) Breakdown) (C D : List Float) (k : Breakdown) → ended r C ≡ cond b (Ok D) (Err k) → Answered b r C D k
+answered true (Ok tt) C D k e = record { done = λ f. (cc, refl); stopped = λ q f. absurd (cc) }
+answered true (Err q) C D k e = absurd (cc)
+answered false (Ok tt) C D k e = absurd (cc)
+answered false (Err q) C D k e = record { done = λ f. absurd (cc); stopped = λ q' f. (cc, refl) }
 
 -- ---- a row: B is the matrix before the cell in column j
 
@@ -126,15 +118,15 @@ module _ (d : ℕ) (s l : List Float) where
       (λ o h. sym (r.own o (omega arith)))
       (λ o h. through (λ (c : ℕ). o < c → entry d l c o ≡ entry d B c o) i (λ c b g. sym (r.above c o b (omega arith))) (λ g. sym (r.own o (omega arith))) j hj (omega arith))
 
-  module _ (B C : List Float) (i from j : ℕ) (r : Solve) (law : FactorCells d s l) (w : Row B i from j) (hf : from ≤ j) (hi : i < d) where
+  module _ (B C : List Float) (i from j : ℕ) (r : Result (Unit {0}) Breakdown) (law : FactorCells d s l) (w : Row B i from j) (hf : from ≤ j) (hi : i < d) where
     -- what stands in the cell is what `from` products leave
     cell-left : j ≤ i → entry d B i j ≡ left d s B i j from
     cell-left hj = w.rest j (omega arith) hj ∙ row-left B i from j from w hf hj
 
-    entry-answered : j < i → Continues d (factor_entry d i j) B i j from r C → Answered (finite (entry d l i j)) r C (set B (i * d + j) (entry d l i j)) 16 i
+    entry-answered : j < i → Continues d (factor_entry d i j) B i j from r C → Answered (finite (entry d l i j)) r C (set B (i * d + j) (entry d l i j)) (Factor i)
     entry-answered hj f =
         let e = law.quotients i j hj hi in
-        answered _ r C _ 16 i
+        answered _ r C _ (Factor i)
         (f.answer (entry d s i j) (cell-left (omega arith))
         ∙ rw e (
         restored-entry d i j B (entry d s i j) (left d s l i j j) (entry d l j j) _ w.size hj hi
@@ -142,9 +134,9 @@ module _ (d : ℕ) (s l : List Float) where
         (sym (w.above j j hj (omega arith)))
         refl))
 
-    pivot-answered : j ≡ i → Continues d (pivot d i) B i i from r C → Answered (positive d s l i) r C (set B (i * d + i) (entry d l i i)) 15 i
+    pivot-answered : j ≡ i → Continues d (pivot d i) B i i from r C → Answered (positive d s l i) r C (set B (i * d + i) (entry d l i i)) (Pivot i)
     pivot-answered e f =
-        answered _ r C _ 15 i
+        answered _ r C _ (Pivot i)
         (f.answer (entry d s i i) (rw e at (cell-left (omega arith)))
         ∙ rw (law.roots i hi) (restored-pivot d i B (entry d s i i) (left d s l i i i) _ w.size hi (rw e at (row-left B i from j j w (omega arith) (omega arith))) refl))
 
@@ -196,10 +188,10 @@ module _ (d : ℕ) where
     };
   }
 
-  pub row_more : (A B C : List Float) (i from j : ℕ) (r : Solve) →
+  pub row_more : (A B C : List Float) (i from j : ℕ) (r : Result (Unit {0}) Breakdown) →
       RowSoFar A B i from j →
       Continues d (factor_entry d i j) B i j from r C →
-      r ≡ Done →
+      r ≡ Ok tt →
       from ≤ j →
       j < i →
       i < d →
@@ -211,25 +203,25 @@ module _ (d : ℕ) where
         cell-more d s l A B C i from j p q.0 (omega arith) hi q.1 hj;
   }
 
-  pub row-stopped : (A B C : List Float) (i from j : ℕ) (r : Solve) (k v : ℕ) →
+  pub row-stopped : (A B C : List Float) (i from j : ℕ) (r : Result (Unit {0}) Breakdown) (b : Breakdown) →
       RowSoFar A B i from j →
       Continues d (factor_entry d i j) B i j from r C →
-      r ≡ Stopped k v →
+      r ≡ Err b →
       from ≤ j →
       j < i →
       i < d →
-      RowFinished d A C i from r
-  row-stopped A B C i from j r k v h f t hf hj hi = record {
+      RowFinished d A C i from (Err b)
+  row-stopped A B C i from j r b h f t hf hj hi = record {
     ends = λ s l y.
         let p = h.made s l y in
-        let q = entry-answered d s l B C i from j r y.law p.row hf hi hj f in
+        let w = (entry-answered d s l B C i from j r y.law p.row hf hi hj f).stopped b t in
         record {
-          done = λ z. never r k v z t;
-          stops = λ n v z. let w = q.stopped n v z in rw (w.0, w.1) (stops-at-entry d s l y.size y.law i j y.passed hi hj p.entries w.2);
+          done = λ z. absurd (cc);
+          stops = λ k z. let e : k ≡ Factor i = cc in rw e (stops-at-entry d s l y.size y.law i j y.passed hi hj p.entries w.1);
         };
   }
 
-  pub row-ended : (A B C : List Float) (i from j : ℕ) (r : Solve) →
+  pub row-ended : (A B C : List Float) (i from j : ℕ) (r : Result (Unit {0}) Breakdown) →
       RowSoFar A B i from j →
       Continues d (pivot d i) B i i from r C →
       from ≤ j →
@@ -251,7 +243,7 @@ module _ (d : ℕ) where
                 pivot = w.1;
                 rest = rest_more d s l A B C i from i p w.0 (omega arith) hi;
               };
-          stops = λ n v z. let w = q.stopped n v z in rw (w.0, w.1) (stops-at-pivot d s l y.size y.law i y.passed hi p.entries w.2);
+          stops = λ k z. let w = q.stopped k z in rw w.0 (stops-at-pivot d s l y.size y.law i y.passed hi p.entries w.1);
         };
   }
 
@@ -269,7 +261,7 @@ module _ (d : ℕ) where
     };
   }
 
-  module _ (A B C : List Float) (from to i : ℕ) (r : Solve) (h : RowsSoFar A B from to i) (f : RowFinished d B C i from r) (hf : from ≤ i) (hi : i < to) (ht : to ≤ d) where
+  module _ (A B C : List Float) (from to i : ℕ) (r : Result (Unit {0}) Breakdown) (h : RowsSoFar A B from to i) (f : RowFinished d B C i from r) (hf : from ≤ i) (hi : i < to) (ht : to ≤ d) where
     -- row i's answer, from what the rows before it give
     row-answer : (s l : List Float) → RowsReady d s l A from to → RowEnds d s l r B C i
     row-answer s l y =
@@ -284,7 +276,7 @@ module _ (d : ℕ) where
           rest = λ c hc hk. p.rest i c (λ q. omega arith) (omega arith) ∙ y.partial.rest i c hi hk hc;
         })
 
-    pub rows_more : r ≡ Done → RowsSoFar A C from to (i + 1)
+    pub rows_more : r ≡ Ok tt → RowsSoFar A C from to (i + 1)
     rows_more t = record {
       made = λ s l y.
           let p = h.made s l y in
@@ -307,12 +299,12 @@ module _ (d : ℕ) where
           };
     }
 
-    pub rows-stopped : (k v : ℕ) → r ≡ Stopped k v → RowsFinished d A C from to r
-    rows-stopped k v t = record { ends = λ s l y. record { done = λ z. never r k v z t; stops = (row-answer s l y).stops } }
+    pub rows-stopped : (b : Breakdown) → r ≡ Err b → RowsFinished d A C from to (Err b)
+    rows-stopped b t = record { ends = λ s l y. record { done = λ z. absurd (cc); stops = λ k z. (row-answer s l y).stops k (t ∙ z) } }
 
-  pub rows-ended : (A B : List Float) (from to i : ℕ) → RowsSoFar A B from to i → i ≤ to → to ≤ i → RowsFinished d A B from to Done
+  pub rows-ended : (A B : List Float) (from to i : ℕ) → RowsSoFar A B from to i → i ≤ to → to ≤ i → RowsFinished d A B from to (Ok tt)
   rows-ended A B from to i h a b = record {
     ends = λ s l y.
         let e : i ≡ to = omega arith in
-        record { done = λ z. rw e at (h.made s l y); stops = λ n q z. never Done n q refl z };
+        record { done = λ z. rw e at (h.made s l y); stops = λ k z. absurd (cc) };
   }

@@ -12,7 +12,9 @@ use lib.Ieee.Scale.{finite}
 use Rattle.field.specs.Count.{upto}
 use Rattle.field.proofs.Counting.{upto_zero, upto-ext}
 use Rattle.sqrt.specs.Root.{root}
-use Rattle.cholesky.specs.Cholesky.{done, stopped, run, entry, inner_step, remainder, factor_entry, pivot, factor_row, factor}
+use Rattle.std.proofs.Common.{Ok, Err}
+use Rattle.cholesky.specs.declared.Breakdown.TheVariants.{Pivot, Factor}
+use Rattle.cholesky.specs.Cholesky.{run, entry, inner_step, remainder, factor_entry, pivot, factor_row, factor}
 use Rattle.cholesky.specs.inner.Stages.{off, placed, left, Made, RowFinite, FactorCells, positive, Passed}
 use Rattle.cholesky.proofs.Places.{place-below, place_is, places-apart, below_or_not, through}
 use Rattle.cholesky.proofs.Fours.{SetEach, placed-is}
@@ -170,17 +172,17 @@ module _ (d : ℕ) (s l : List Float) where
 
   module _ (size : length s ≡ d * d) (law : FactorCells d s l) where
     run-entry : (i c : ℕ) (C : List Float) → RunAt i c C → c < i → i < d →
-        factor_entry d i c C ≡ cond (finite (entry d l i c)) (done (set C (i * d + c) (entry d l i c))) (stopped 16 i)
+        factor_entry d i c C ≡ cond (finite (entry d l i c)) (Ok (set C (i * d + c) (entry d l i c))) (Err (Factor i))
     run-entry i c C r h hi =
         let e = law.quotients i c h hi in
         rw e (entry-step d i c C (left d s l i c c) (entry d l c c) _ (run-left i c C r (omega arith) hi) (sym (r.above c c h (omega arith))) refl)
 
     run-pivot : (i : ℕ) (C : List Float) → RunAt i i C → i < d →
-        pivot d i C ≡ cond (positive d s l i) (done (set C (i * d + i) (entry d l i i))) (stopped 15 i)
+        pivot d i C ≡ cond (positive d s l i) (Ok (set C (i * d + i) (entry d l i i))) (Err (Pivot i))
     run-pivot i C r hi = rw (law.roots i hi) (pivot-step d i C (left d s l i i i) _ (run-left i i C r (omega arith) hi) refl)
 
     -- a row's first k entries
-    row-run : (i k : ℕ) (C : List Float) → RunAt i 0 C → k ≤ i → i < d → RowFinite d l i k → (B : List Float) × (run (factor_entry d i) k C ≡ done B) × RunAt i k B
+    row-run : (i k : ℕ) (C : List Float) → RunAt i 0 C → k ≤ i → i < d → RowFinite d l i k → (B : List Float) × (run (factor_entry d i) k C ≡ Ok B) × RunAt i k B
     row-run i zero C r hk hi f = (C, run_none (factor_entry d i) C, r)
     row-run i (suc k) C r hk hi f =
         let p = row-run i k C r (omega arith) hi (λ c h. f c (omega arith)) in
@@ -191,7 +193,7 @@ module _ (d : ℕ) (s l : List Float) where
         )
 
     -- a whole row
-    whole : (i : ℕ) (C : List Float) → RunAt i 0 C → i < d → RowFinite d l i i → positive d s l i ≡ true → (B : List Float) × (factor_row d i C ≡ done B) × RunAt (suc i) 0 B
+    whole : (i : ℕ) (C : List Float) → RunAt i 0 C → i < d → RowFinite d l i i → positive d s l i ≡ true → (B : List Float) × (factor_row d i C ≡ Ok B) × RunAt (suc i) 0 B
     whole i C r hi f g =
         let p = row-run i i C r (omega arith) hi f in
         let e = run-pivot i p.0 p.2 hi in (
@@ -200,7 +202,7 @@ module _ (d : ℕ) (s l : List Float) where
           run_row i i p.0 p.2 (omega arith) hi refl,
         )
 
-    rows_run : (n : ℕ) → Passed d s l n n → n ≤ d → (C : List Float) × (run (factor_row d) n s ≡ done C) × RunAt n 0 C
+    rows_run : (n : ℕ) → Passed d s l n n → n ≤ d → (C : List Float) × (run (factor_row d) n s ≡ Ok C) × RunAt n 0 C
     rows_run zero h k = (
       s,
       run_none (factor_row d) s,
@@ -219,23 +221,23 @@ module _ (d : ℕ) (s l : List Float) where
         (q.0, run_more (factor_row d) n s p.0 p.1 ∙ q.1, q.2)
 
     -- the answers: an entry that is not finite, a pivot that is not finite or not above 0, and none of these
-    pub stops-at-entry : (i c : ℕ) → Passed d s l i i → i < d → c < i → RowFinite d l i c → finite (entry d l i c) ≡ false → stopped 16 i ≡ factor d s
+    pub stops-at-entry : (i c : ℕ) → Passed d s l i i → i < d → c < i → RowFinite d l i c → finite (entry d l i c) ≡ false → Err (Factor i) ≡ factor d s
     unfolding factor
     stops-at-entry i c h hi hc f t =
         let p = rows_run i h (omega arith) in
         let q = row-run i c p.0 p.2 (omega arith) hi f in
         let e = run-entry i c q.0 q.2 hc hi in
-        sym (run-stops (factor_row d) i d s p.0 16 i p.1 (row-stops d i c p.0 q.0 16 i q.1 (rw t at e) hc) hi)
+        sym (run-stops (factor_row d) i d s p.0 (Factor i) p.1 (row-stops d i c p.0 q.0 (Factor i) q.1 (rw t at e) hc) hi)
 
-    pub stops-at-pivot : (i : ℕ) → Passed d s l i i → i < d → RowFinite d l i i → positive d s l i ≡ false → stopped 15 i ≡ factor d s
+    pub stops-at-pivot : (i : ℕ) → Passed d s l i i → i < d → RowFinite d l i i → positive d s l i ≡ false → Err (Pivot i) ≡ factor d s
     unfolding factor
     stops-at-pivot i h hi f t =
         let p = rows_run i h (omega arith) in
         let q = row-run i i p.0 p.2 (omega arith) hi f in
         let e = run-pivot i q.0 q.2 hi in
-        sym (run-stops (factor_row d) i d s p.0 15 i p.1 (row_ends d i p.0 q.0 q.1 ∙ rw t at e) hi)
+        sym (run-stops (factor_row d) i d s p.0 (Pivot i) p.1 (row_ends d i p.0 q.0 q.1 ∙ rw t at e) hi)
 
-    pub ends : (B : List Float) → Passed d s l d d → length B ≡ d * d → Made d l B d → ((m c : ℕ) → m < c → c < d → entry d B m c ≡ entry d s m c) → done B ≡ factor d s
+    pub ends : (B : List Float) → Passed d s l d d → length B ≡ d * d → Made d l B d → ((m c : ℕ) → m < c → c < d → entry d B m c ≡ entry d s m c) → Ok B ≡ factor d s
     unfolding factor
     ends B h hB f g =
         let p = rows_run d h (omega arith) in
@@ -247,4 +249,4 @@ module _ (d : ℕ) (s l : List Float) where
         (below_or_not m c) in
         let cells : (k : ℕ) → k < length B → get_or B k nan ≡ get_or p.0 k nan =
         λ k hk. let q = place_is d d k (omega arith) in rw q.4 (same q.0 q.1 q.2 q.3) in
-        ap done (ext_get_or nan B p.0 (hB ∙ sym p.2.size) cells) ∙ sym p.1
+        ap Ok (ext_get_or nan B p.0 (hB ∙ sym p.2.size) cells) ∙ sym p.1

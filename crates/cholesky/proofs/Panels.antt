@@ -13,15 +13,15 @@ use lib.Ieee.Scale.{finite}
 use Rattle.field.specs.Count.{upto}
 use Rattle.field.proofs.Counting.{upto_add, upto-ext}
 use Rattle.cholesky.specs.declared.Four.{Four}
-use Rattle.cholesky.specs.declared.Solve.{Solve}
-use Rattle.cholesky.specs.declared.Solve.TheVariants.{Done, Stopped}
+use Rattle.std.proofs.Common.{Result, Ok, Err}
+use Rattle.cholesky.specs.declared.Breakdown.{Breakdown}
+use Rattle.cholesky.specs.declared.Breakdown.TheVariants.{Factor}
 use Rattle.cholesky.specs.Cholesky.{ended, entry, inner_step, factor}
 use Rattle.cholesky.specs.inner.Stages.{lane, finite4, off, taken, four, stored, Solves, left, Made, FactorCells, Refused}
 use Rattle.cholesky.specs.inner.Stages.{RowsDone, RowsEnd, PanelReady, PanelMade, PanelEnds, OutsidePanel}
 use Rattle.cholesky.specs.inner.Stages.{RowsFinished, RowSolved, PanelSolved, Eliminated, ColumnsEnd, Stage, Reached, Finishes}
 use Rattle.cholesky.proofs.Places.{below_or_not, through}
 use Rattle.cholesky.proofs.Fours.{lane-four, stored-size, stored-own, stored-rest, finite-lanes, infinite-lane}
-use Rattle.cholesky.proofs.Finished.{never}
 use Rattle.cholesky.proofs.Lower.{left-none, factor-cells, fewer, stops-at-entry, ends}
 
 -- ---- a row of the panel
@@ -175,7 +175,7 @@ module _ (d : ℕ) where
   }
 
 -- B is the matrix before the pivots' rows are made, C after
-module _ (d : ℕ) (s B C : List Float) (rows j to : ℕ) (r : Solve) (h : Reached d s B rows j) (f : RowsFinished d B C j to r) (hs : length s ≡ d * d) (ht : to ≤ rows) where
+module _ (d : ℕ) (s B C : List Float) (rows j to : ℕ) (r : Result (Unit {0}) Breakdown) (h : Reached d s B rows j) (f : RowsFinished d B C j to r) (hs : length s ≡ d * d) (ht : to ≤ rows) where
   rows-answer : (l : List Float) → FactorCells d s l → RowsEnd d s l r B C to
   rows-answer l law =
       let st = h.stage l law in
@@ -187,8 +187,8 @@ module _ (d : ℕ) (s B C : List Float) (rows j to : ℕ) (r : Solve) (h : Reach
       })
 
 -- the four columns: D is C with the panel made, E with the products taken off
-module _ (d : ℕ) (s B C E : List Float) (rows j n : ℕ) (r : Solve) (h : Reached d s B rows j) (f : RowsFinished d B C j (j + 4) r)
-    (hs : length s ≡ d * d) (g : Eliminated d C E j rows n) (t : r ≡ Done) (hr : rows ≤ d) (l : List Float) (law : FactorCells d s l) where
+module _ (d : ℕ) (s B C E : List Float) (rows j n : ℕ) (r : Result (Unit {0}) Breakdown) (h : Reached d s B rows j) (f : RowsFinished d B C j (j + 4) r)
+    (hs : length s ≡ d * d) (g : Eliminated d C E j rows n) (t : r ≡ Ok tt) (hr : rows ≤ d) (l : List Float) (law : FactorCells d s l) where
   stage : Stage d s l B rows j
   stage = h.stage l law
 
@@ -269,56 +269,62 @@ module _ (d : ℕ) (s B C E : List Float) (rows j n : ℕ) (r : Solve) (h : Reac
       }
 
 module _ (d : ℕ) where
-  pub columns-done : (A B C : List Float) (rows j n : ℕ) (r : Solve) →
+  pub columns-done : (A B C : List Float) (rows j n : ℕ) (r : Result (Unit {0}) Breakdown) →
       Eliminated d C B j rows n →
       RowsFinished d A C j (j + 4) r →
-      r ≡ Done →
+      r ≡ Ok tt →
       rows ≤ d →
-      ColumnsEnd d A B j rows Done n
+      ColumnsEnd d A B j rows (Ok n)
   columns-done A B C rows j n r g f t hr = record {
-    low = g.low;
-    high = g.high;
-    done = λ s hs h e. record { stage = next-stage d s A C B rows j n r h f hs g t hr };
-    stops = λ s hs h k q z. never Done k q refl z;
+    low = λ m e. let z : n ≡ m = cc in rw z at g.low;
+    high = λ m e. let z : n ≡ m = cc in rw z at g.high;
+    done = λ s hs h m e.
+        let z : n ≡ m = cc in
+        let u : Reached d s B n (j + 4) = record { stage = next-stage d s A C B rows j n r h f hs g t hr } in
+        rw z at u;
+    stops = λ s hs h b z. absurd (cc);
   }
 
-  pub columns-stopped : (A C : List Float) (rows j : ℕ) (r : Solve) (k q : ℕ) →
+  pub columns-stopped : (A C : List Float) (rows j : ℕ) (r : Result (Unit {0}) Breakdown) (b : Breakdown) →
       RowsFinished d A C j (j + 4) r →
-      r ≡ Stopped k q →
+      r ≡ Err b →
       j + 4 ≤ rows →
-      ColumnsEnd d A C j rows r rows
-  columns-stopped A C rows j r k q f e hj = record {
-    low = hj;
-    high = omega arith;
-    done = λ s hs h t. never r k q t e;
-    stops = λ s hs h n v z. let w = factor-cells d s hs in (rows-answer d s A C rows j (j + 4) r h f hs hj w.0 w.1).stops n v z;
+      ColumnsEnd d A C j rows (Err b)
+  columns-stopped A C rows j r b f e hj = record {
+    low = λ m t. absurd (cc);
+    high = λ m t. absurd (cc);
+    done = λ s hs h m t. absurd (cc);
+    stops = λ s hs h q z.
+        let w = factor-cells d s hs in
+        let k : b ≡ q = cc in
+        (rows-answer d s A C rows j (j + 4) r h f hs hj w.0 w.1).stops q (rw k at e);
   }
 
-  pub reached-more : (s A B : List Float) (rows j n : ℕ) (r : Solve) →
-      ColumnsEnd d A B j rows r n →
-      r ≡ Done →
+  pub reached-more : (s A B : List Float) (rows j n : ℕ) (r : Result ℕ Breakdown) →
+      ColumnsEnd d A B j rows r →
+      r ≡ Ok n →
       Reached d s A rows j →
       length s ≡ d * d →
       Reached d s B n (j + 4)
-  reached-more s A B rows j n r f e h hs = f.done s hs h e
+  reached-more s A B rows j n r f e h hs = f.done s hs h n e
 
-  pub reached-stopped : (s A B : List Float) (rows j n : ℕ) (r : Solve) (k q : ℕ) →
-      ColumnsEnd d A B j rows r n →
-      r ≡ Stopped k q →
+  pub reached-stopped : (s A B : List Float) (rows j : ℕ) (r : Result ℕ Breakdown) (b : Breakdown) →
+      ColumnsEnd d A B j rows r →
+      r ≡ Err b →
       Reached d s A rows j →
       length s ≡ d * d →
-      ended r B ≡ factor d s
-  reached-stopped s A B rows j n r k q f e h hs = rw e (f.stops s hs h k q e)
+      Err b ≡ factor d s
+  reached-stopped s A B rows j r b f e h hs = f.stops s hs h b e
 
   -- ---- the last rows
 
-  pub last-stopped : (A B : List Float) (rows j : ℕ) (r : Solve) (k q : ℕ) → RowsFinished d A B j rows r → r ≡ Stopped k q → Finishes d A B rows j r
-  last-stopped A B rows j r k q f e = record {
-    answer = λ s hs h. let w = factor-cells d s hs in rw e ((rows-answer d s A B rows j rows r h f hs (omega arith) w.0 w.1).stops k q e);
+  pub last-stopped : (A B : List Float) (rows j : ℕ) (r : Result (Unit {0}) Breakdown) (b : Breakdown) → RowsFinished d A B j rows r → r ≡ Err b → Finishes d A B rows j (Err b)
+  last-stopped A B rows j r b f e = record {
+    answer = λ s hs h. let w = factor-cells d s hs in (rows-answer d s A B rows j rows r h f hs (omega arith) w.0 w.1).stops b e;
   }
 
-  module _ (A B : List Float) (rows j : ℕ) (r : Solve) (f : RowsFinished d A B j rows r) (t : r ≡ Done) (hr : rows ≤ d) where
-    pub last-refused : rows < d → Finishes d A B rows j (Stopped 16 rows)
+  module _ (A B : List Float) (rows j : ℕ) (r : Result (Unit {0}) Breakdown) (f : RowsFinished d A B j rows r) (t : r ≡ Ok tt) (hr : rows ≤ d) where
+    pub last-refused : rows < d → Finishes d A B rows j (Err (Factor rows))
     last-refused a = record {
       answer = λ s hs h.
           let w = factor-cells d s hs in
@@ -326,7 +332,7 @@ module _ (d : ℕ) where
           (h.stage w.0 w.1).refused a e.passed;
     }
 
-    pub last_done : d ≤ rows → length B ≡ length A → length A ≡ d * d → Finishes d A B rows j Done
+    pub last_done : d ≤ rows → length B ≡ length A → length A ≡ d * d → Finishes d A B rows j (Ok tt)
     last_done a hb hl = record {
       answer = λ s hs h.
           let w = factor-cells d s hs in
@@ -337,5 +343,5 @@ module _ (d : ℕ) where
           (λ m c b k. e.rest m c (λ q. omega arith) k ∙ (h.stage l w.1).above m c b k);
     }
 
-  pub factored : (s A B : List Float) (rows j : ℕ) (r : Solve) → Reached d s A rows j → Finishes d A B rows j r → length s ≡ d * d → ended r B ≡ factor d s
+  pub factored : (s A B : List Float) (rows j : ℕ) (r : Result (Unit {0}) Breakdown) → Reached d s A rows j → Finishes d A B rows j r → length s ≡ d * d → ended r B ≡ factor d s
   factored s A B rows j r h f hs = f.answer s hs h

@@ -14,9 +14,10 @@ use Rattle.field.specs.Count.{upto}
 use Rattle.field.specs.Buffer.{get, put, load, store, vector}
 use Rattle.field.proofs.Counting.{upto_zero, upto-suc, upto-keeps}
 use Rattle.field.proofs.Buffers.{at_load, length-load, load-put, load_store, put-store, store-load, take-store, take-write, vector-lawful}
-use Rattle.cholesky.specs.declared.Solve.{Solve}
-use Rattle.cholesky.specs.declared.Solve.TheVariants.{Done, Stopped}
-use Rattle.cholesky.specs.Cholesky.{done, run, ended, entry, forward_step, forward_vector, forward_row, forward}
+use Rattle.std.proofs.Common.{Result, Ok, Err}
+use Rattle.cholesky.specs.declared.Breakdown.{Breakdown}
+use Rattle.cholesky.specs.declared.Breakdown.TheVariants.{Solution}
+use Rattle.cholesky.specs.Cholesky.{run, ended, entry, forward_step, forward_vector, forward_row, forward}
 use Rattle.cholesky.specs.Cholesky.{back_step, back_vector, back_row, back_turn, back, Substituted}
 use Rattle.cholesky.proofs.Places.{place-below}
 use Rattle.cholesky.proofs.Runs.{run_none, run_more, run-stops}
@@ -80,7 +81,7 @@ module _ (d : ℕ) where
     pub back-vector-more : (i k : ℕ) (z v w : Vec3) →
         v ≡ upto (back_step d (L s) (right s) i) (k - suc i) z →
         w ≡ minus v (scale (at (right s) k) (entry d (L s) k i)) →
-        i < k →
+        i + 1 ≤ k →
         w ≡ upto (back_step d (L s) (right s) i) (k + 1 - suc i) z
     back-vector-more i k z v w ev ew h =
         let t = k - suc i in
@@ -145,48 +146,51 @@ module _ (d : ℕ) where
   -- ---- the back substitution
 
   module _ (l : List Float) (i : ℕ) (v : Vec3) (b : Bool) (ev : v ≡ back_vector d (L l) (right l) i) (eb : b ≡ is_finite v) where
-    pub back-row-done : (s : List Float) → b ≡ true → s ≡ put vector l (d * d + 3 * i) v → i < d → length l ≡ d * d + 3 * d → Substituted d l s Done (back_row d (L l) i (right l))
+    pub back-row-done : (s : List Float) → b ≡ true → s ≡ put vector l (d * d + 3 * i) v → i < d → length l ≡ d * d + 3 * d → Substituted d l s (Ok tt) (back_row d (L l) i (right l))
     unfolding back_row put
     back-row-done s t es h k =
         let q : is_finite (back_vector d (L l) (right l) i) ≡ true = rw ev at (sym eb ∙ t) in
         record {
-          answer = rw q (ap done (rw es (load-put vector vector-lawful l (d * d) d i v h (omega arith)) ∙ ap (set (right l) i) ev));
+          answer = rw q (ap Ok (rw es (load-put vector vector-lawful l (d * d) d i v h (omega arith)) ∙ ap (set (right l) i) ev));
           factor = rw es (take-write (d * d) l (d * d + 3 * i) _ (omega arith));
         }
 
-    pub back-row-stopped : b ≡ false → Substituted d l l (Stopped 17 i) (back_row d (L l) i (right l))
+    pub back-row-stopped : b ≡ false → Substituted d l l (Err (Solution i)) (back_row d (L l) i (right l))
     unfolding back_row
     back-row-stopped t =
         let q : is_finite (back_vector d (L l) (right l) i) ≡ false = rw ev at (sym eb ∙ t) in
         record { answer = rw q refl; factor = refl }
 
-  -- l is the buffer before the loop, s after t rows
-  pub record BackRows (l s : List Float) (t : ℕ) : Type 0 where
-    rows : run (back_turn d (L l)) t (right l) ≡ done (right s)
+  -- l is the buffer before the loop, s after the rows from row i on
+  pub record BackRows (l s : List Float) (i : ℕ) : Type 0 where
+    rows : run (back_turn d (L l)) (d - i) (right l) ≡ Ok (right s)
     factor : L s ≡ L l
 
-  pub back-rows-none : (l : List Float) → BackRows l l 0
-  back-rows-none l = record { rows = run_none _ _; factor = refl }
+  pub back-rows-none : (l : List Float) → BackRows l l d
+  back-rows-none l = record { rows = let e : d - d ≡ 0 = omega arith in rw e (run_none _ _); factor = refl }
 
-  module _ (l s w : List Float) (t : ℕ) (r : Solve) (h : BackRows l s t) (g : Substituted d s w r (back_row d (L s) (d - 1 - t) (right s))) where
-    row-answer : ended r (right w) ≡ back_turn d (L l) t (right s)
-    row-answer = let e : d - 1 - t ≡ d - suc t = omega arith in rw (e, h.factor) at g.answer
+  module _ (l s w : List Float) (i : ℕ) (r : Result (Unit {0}) Breakdown) (h : BackRows l s i) (g : Substituted d s w r (back_row d (L s) (i - 1) (right s))) (low : 0 < i) (high : i ≤ d) where
+    row-answer : ended r (right w) ≡ back_turn d (L l) (d - i) (right s)
+    row-answer = let e : i - 1 ≡ d - suc (d - i) = omega arith in rw (e, h.factor) at g.answer
 
-    pub back-rows-more : r ≡ Done → BackRows l w (t + 1)
-    back-rows-more e = record { rows = rw add-one (run_more _ _ _ _ h.rows ∙ ended-done _ _ _ row-answer e); factor = g.factor ∙ h.factor }
+    pub back-rows-more : r ≡ Ok tt → BackRows l w (i - 1)
+    back-rows-more e = record {
+      rows = let f : d - (i - 1) ≡ suc (d - i) = omega arith in rw f (run_more _ _ _ _ h.rows ∙ ended-done _ _ _ row-answer e);
+      factor = g.factor ∙ h.factor;
+    }
 
-    pub back-rows-stopped : (k j : ℕ) → r ≡ Stopped k j → t < d → Substituted d l w r (back d (L l) (right l))
+    pub back-rows-stopped : (b : Breakdown) → r ≡ Err b → Substituted d l w (Err b) (back d (L l) (right l))
     unfolding back
-    back-rows-stopped k j e n =
-        let q = ended-stopped _ _ _ _ _ row-answer e in
-        record { answer = row-answer ∙ q ∙ sym (run-stops _ _ _ _ _ _ _ h.rows q n); factor = g.factor ∙ h.factor }
+    back-rows-stopped b e =
+        let q = ended-stopped _ _ _ _ row-answer e in
+        record { answer = sym (run-stops _ _ _ _ _ _ h.rows q (omega arith)); factor = g.factor ∙ h.factor }
 
-  pub back-rows-ended : (l s : List Float) (t : ℕ) → BackRows l s t → t ≤ d → d ≤ t → Substituted d l s Done (back d (L l) (right l))
+  pub back-rows-ended : (l s : List Float) (i : ℕ) → BackRows l s i → i ≤ 0 → Substituted d l s (Ok tt) (back d (L l) (right l))
   unfolding back
-  back-rows-ended l s t h a b = let e : t ≡ d = omega arith in record { answer = sym (rw e at h.rows); factor = h.factor }
+  back-rows-ended l s i h a = let e : d - i ≡ d = omega arith in record { answer = sym (rw e at h.rows); factor = h.factor }
 
   -- both, one after the other
-  pub substituted : (l s w : List Float) (r : Solve) →
+  pub substituted : (l s w : List Float) (r : Result (Unit {0}) Breakdown) →
       length l ≡ d * d + 3 * d →
       s ≡ store vector l (d * d) (forward d (L l) (right l)) →
       Substituted d s w r (back d (L s) (right s)) →

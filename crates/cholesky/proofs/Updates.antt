@@ -16,9 +16,6 @@ use Rattle.cholesky.proofs.Lower.{entry-same, entry_other}
 module _ (d : ℕ) where
   -- ---- the columns, packed
 
-  pub packed_none : (A : List Float) (j from : ℕ) (p : List Float) → Packed d A j from 0 p
-  packed_none A j from p = record { rows = λ t h. absurd (omega arith) }
-
   pub packed_more : (A : List Float) (j from t n : ℕ) (p w : List Float) (x : Four) →
       Packed d A j from t p →
       x ≡ four d A (from + t) j →
@@ -35,9 +32,6 @@ module _ (d : ℕ) where
         (packed-own p t x hp (omega arith) ∙ e)
         u (omega arith));
   }
-
-  pub packed-ended : (A : List Float) (j from t n : ℕ) (p : List Float) → Packed d A j from t p → t ≤ n → n ≤ t → Packed d A j from n p
-  packed-ended A j from t n p h a b = let e : t ≡ n = omega arith in rw e at h
 
   -- ---- one row
 
@@ -74,9 +68,6 @@ module _ (d : ℕ) where
       let o : entry d B (i + 1) (from + t) ≡ entry d A (i + 1) (from + t) = rw b (cell-rest A p i from t x (i + 1) (from + t) (λ q. omega arith) ht ht) in
       rw b at (cell-done B p (i + 1) from t y v C (rw o f) h)
 
-  pub row-none : (A : List Float) (i from : ℕ) (x : Four) (p : List Float) → RowUpdated d A A i from 0 x p
-  row-none A i from x p = record { size = refl; cells = λ t h. absurd (omega arith); rest = λ m c h k. refl }
-
   pub row_more : (A B C : List Float) (i from t : ℕ) (x : Four) (p : List Float) →
       RowUpdated d A B i from t x p →
       C ≡ with_cell d B p i from t x →
@@ -107,9 +98,6 @@ module _ (d : ℕ) where
       RowUpdated d A C i from (t + 1) x p
   row_next A B C i from t n x p h e hl hi ht hn = row_more A B C i from t x p h e hl hi (omega arith)
 
-  pub row-ended : (A B : List Float) (i from t n : ℕ) (x : Four) (p : List Float) → RowUpdated d A B i from t x p → t ≤ n → n ≤ t → RowUpdated d A B i from n x p
-  row-ended A B i from t n x p h a b = let e : t ≡ n = omega arith in rw e at h
-
   -- a cell of the row above, updated before and after
   row-above : (A B : List Float) (i from n t : ℕ) (x y : Four) (p : List Float) →
       RowUpdated d A B (i + 1) from n y p →
@@ -137,9 +125,6 @@ module _ (d : ℕ) where
 
   -- ---- two rows
 
-  pub pair-none : (A : List Float) (i from : ℕ) (x y : Four) (p : List Float) → PairUpdated d A A i from 0 0 x y p
-  pair-none A i from x y p = record { upper = A; first = row-none A i from x p; second = row-none A (i + 1) from y p }
-
   pair-more : (A B C : List Float) (i from t : ℕ) (x y : Four) (p : List Float) →
       PairUpdated d A B i from t t x y p →
       C ≡ with_cell d (with_cell d B p i from t x) p (i + 1) from t y →
@@ -166,9 +151,6 @@ module _ (d : ℕ) where
       from + 2 * h ≤ d →
       PairUpdated d A C i from (t + 1) (t + 1) x y p
   pair-next A B C i from t h x y p u e hl hi ht hn = pair-more A B C i from t x y p u e hl hi (omega arith)
-
-  pub pair_ended : (A B : List Float) (i from t n : ℕ) (x y : Four) (p : List Float) → PairUpdated d A B i from t t x y p → t ≤ n → n ≤ t → PairUpdated d A B i from n n x y p
-  pair_ended A B i from t n x y p h a b = let e : t ≡ n = omega arith in rw e at h
 
   -- all entries in common, an even number of them and perhaps one more
   pub common-even : (A B : List Float) (i from w : ℕ) (x y : Four) (p : List Float) →
@@ -270,21 +252,19 @@ module _ (d : ℕ) where
   pub rows_last : (A B C D : List Float) (j from n k i rows : ℕ) (p : List Float) →
       RowsUpdated d A B j from n from k p →
       RowsUpdated d B C j from n k i p →
-      RowsUpdated d C D j from n i (i + 1) p →
-      i < rows →
-      rows - i < 2 →
+      RowsUpdated d C D j from n (rows - 1) (rows - 1 + 1) p →
+      i + 1 ≡ rows →
       RowsUpdated d A D j from n from rows p
-  rows_last A B C D j from n k i rows p u v w a b =
-      let e : i + 1 ≡ rows = omega arith in
-      rw e at (rows_append A B D j from n from k (i + 1) p u (rows_append B C D j from n k i (i + 1) p v w))
+  rows_last A B C D j from n k i rows p u v w e =
+      let f : rows - 1 ≡ i = omega arith in
+      rw e at (rows_append A B D j from n from k (i + 1) p u (rows_append B C D j from n k i (i + 1) p v (rw f at w)))
 
   pub rows-ended : (A B C : List Float) (j from n k i rows : ℕ) (p : List Float) →
       RowsUpdated d A B j from n from k p →
       RowsUpdated d B C j from n k i p →
-      i ≤ rows →
-      rows ≤ i →
+      i ≡ rows →
       RowsUpdated d A C j from n from rows p
-  rows-ended A B C j from n k i rows p u v a b = let e : i ≡ rows = omega arith in rw e at (rows_append A B C j from n from k i p u v)
+  rows-ended A B C j from n k i rows p u v e = rw e at (rows_append A B C j from n from k i p u v)
 
   -- ---- the columns before k
 
@@ -297,21 +277,23 @@ module _ (d : ℕ) where
   pub updated-ended : (A B : List Float) (j from k rows : ℕ) → Updated d A B j from k rows → k ≤ rows → rows ≤ k → Updated d A B j from rows rows
   updated-ended A B j from k rows u a b = let e : k ≡ rows = omega arith in rw e at u
 
-  pub updated-more : (A B C : List Float) (j k n rows : ℕ) →
+  -- the columns before k, and n more
+  pub updated-more : (A B C : List Float) (j k n m rows : ℕ) →
       Updated d A B j (j + 4) k rows →
       Updated d B C j k (k + n) rows →
+      k + n ≡ m →
       j + 4 ≤ k →
       rows ≤ d →
-      Updated d A C j (j + 4) (k + n) rows
-  updated-more A B C j k n rows h u hf hr =
+      Updated d A C j (j + 4) m rows
+  updated-more A B C j k n m rows h u e hf hr =
       let from = j + 4 in
-      let o : (m c : ℕ) → c < from → c < d → entry d B m c ≡ entry d A m c = λ m c b q. h.rest m c (λ z. omega arith) q in
-      let f : (m : ℕ) → m < rows → from ≤ m → four d B m j ≡ four d A m j = λ m a e. four_same d A B m j (λ c b q. o m c (omega arith) (omega arith)) in
+      let o : (r c : ℕ) → c < from → c < d → entry d B r c ≡ entry d A r c = λ r c b q. h.rest r c (λ z. omega arith) q in
+      let f : (r : ℕ) → r < rows → from ≤ r → four d B r j ≡ four d A r j = λ r a b. four_same d A B r j (λ c g q. o r c (omega arith) (omega arith)) in
       record {
-        cells = λ m c hc hn hm hw.
+        cells = λ r c hc hn hm hw.
             ⊎_elim
-            (λ (b : c < k). u.rest m c (λ q. omega arith) (omega arith) ∙ h.cells m c hc b hm hw)
-            (λ (b : k ≤ c). u.cells m c b hn hm hw ∙ rw (h.rest m c (λ q. omega arith) (omega arith), f m hw (omega arith), f c (omega arith) hc))
+            (λ (b : c < k). u.rest r c (λ q. omega arith) (omega arith) ∙ h.cells r c hc b hm hw)
+            (λ (b : k ≤ c). u.cells r c b (omega arith) hm hw ∙ rw (h.rest r c (λ q. omega arith) (omega arith), f r hw (omega arith), f c (omega arith) hc))
             (below_or_not c k);
-        rest = λ m c g hc. u.rest m c (λ q. g (omega arith, q.1, q.2, q.3)) hc ∙ h.rest m c (λ q. g (q.0, omega arith, q.2, q.3)) hc;
+        rest = λ r c g hc. u.rest r c (λ q. g (omega arith, omega arith, q.2, q.3)) hc ∙ h.rest r c (λ q. g (q.0, omega arith, q.2, q.3)) hc;
       }

@@ -16,11 +16,13 @@ use double::is_finite;
 use field::{Vec3, get3, put3};
 use sqrt::sqrt;
 
-// How a factor or a substitution ends: done, or stopped by document 01's refusal `number` at the row `row`.
-#[derive(Clone, Copy)]
-pub enum Solve {
-    Done,
-    Stopped { number: usize, row: usize },
+// Where a factor or a substitution breaks down: the row of the pivot that is not finite or not above 0, of the factor entry that is not finite,
+// of the back-substituted number that is not finite.
+#[derive(Clone, Copy, Debug, PartialEq, Eq)]
+pub enum Breakdown {
+    Pivot(usize),
+    Factor(usize),
+    Solution(usize),
 }
 
 // Four neighbouring columns of a row: entries, or what is left of their remainders so far.
@@ -30,13 +32,6 @@ struct Four {
     second: f64,
     third: f64,
     fourth: f64,
-}
-
-// How four columns end, and the first row that is not made.
-#[derive(Clone, Copy)]
-struct Columns {
-    end: Solve,
-    rows: usize,
 }
 
 // a_ij, or l_ij once that has its place. The matrix stands at the front of a.
@@ -62,25 +57,23 @@ fn remainder(a: &[f64], d: usize, i: usize, j: usize, from: usize) -> f64
     ensures { Reduces d a.now i j from j result }
 {
     let mut v = entry(a, d, i, j);
-    let mut k = from;
-    while k < j {
-        v = v - entry(a, d, i, k) * entry(a, d, j, k);
-        k += 1;
+    for k in from..j {
+        v -= entry(a, d, i, k) * entry(a, d, j, k);
     }
     v
 }
 
 // l_ij, the remainder over l_jj.
-fn factor_entry(a: &mut [f64], d: usize, i: usize, j: usize, from: usize) -> Solve
+fn factor_entry(a: &mut [f64], d: usize, i: usize, j: usize, from: usize) -> Result<(), Breakdown>
     requires { (length a.old ≡ d * d) × (from ≤ j) × (j < i) × (i < d) }
     ensures { Continues d (factor_entry d i j) a.old i j from result a.new }
 {
     let x = remainder(a, d, i, j, from) / entry(a, d, j, j);
     if is_finite(x) {
         put_entry(a, d, i, j, x);
-        return Solve::Done;
+        return Ok(());
     }
-    Solve::Stopped { number: 16, row: i }
+    Err(Breakdown::Factor(i))
 }
 
 // Whether v has a root that a row can be divided by.
@@ -91,48 +84,38 @@ fn is_pivot(v: f64) -> bool
 }
 
 // l_ii, the root of the remainder.
-fn pivot(a: &mut [f64], d: usize, i: usize, from: usize) -> Solve
+fn pivot(a: &mut [f64], d: usize, i: usize, from: usize) -> Result<(), Breakdown>
     requires { (length a.old ≡ d * d) × (from ≤ i) × (i < d) }
     ensures { Continues d (pivot_of d i) a.old i i from result a.new }
 {
     let v = remainder(a, d, i, i, from);
     if is_pivot(v) {
         put_entry(a, d, i, i, sqrt(v));
-        return Solve::Done;
+        return Ok(());
     }
-    Solve::Stopped { number: 15, row: i }
+    Err(Breakdown::Pivot(i))
 }
 
 // A row from column `from` on, where the rows before it are made, and its own entries before `from`.
-fn finish_row(a: &mut [f64], d: usize, i: usize, from: usize) -> Solve
+fn finish_row(a: &mut [f64], d: usize, i: usize, from: usize) -> Result<(), Breakdown>
     requires { (length a.old ≡ d * d) × (from ≤ i) × (i < d) }
     ensures { RowFinished d a.old a.new i from result }
 {
-    let mut j = from;
-    while j < i {
-        let step = factor_entry(a, d, i, j, from);
-        let Solve::Done = step else {
-            return step;
-        };
-        j += 1;
+    for j in from..i {
+        factor_entry(a, d, i, j, from)?;
     }
     pivot(a, d, i, from)
 }
 
 // The rows `from` to `to` - 1, where all entries before column `from` are made.
-fn finish_rows(a: &mut [f64], d: usize, from: usize, to: usize) -> Solve
+fn finish_rows(a: &mut [f64], d: usize, from: usize, to: usize) -> Result<(), Breakdown>
     requires { (length a.old ≡ d * d) × (from ≤ to) × (to ≤ d) }
     ensures { RowsFinished d a.old a.new from to result }
 {
-    let mut i = from;
-    while i < to {
-        let step = finish_row(a, d, i, from);
-        let Solve::Done = step else {
-            return step;
-        };
-        i += 1;
+    for i in from..to {
+        finish_row(a, d, i, from)?;
     }
-    Solve::Done
+    Ok(())
 }
 
 // ---- the panel: four columns of the rows below their pivots
@@ -214,12 +197,10 @@ fn panel(a: &mut [f64], d: usize, j: usize, rows: usize) -> usize
     requires { (length a.old ≡ d * d) × (j + 4 ≤ rows) × (rows ≤ d) }
     ensures { PanelSolved d a.old a.new j rows result }
 {
-    let mut i = j + 4;
-    while i < rows {
+    for i in j + 4..rows {
         if !panel_row(a, d, i, j) {
             return i;
         }
-        i += 1;
     }
     rows
 }
@@ -242,11 +223,9 @@ fn pack(a: &[f64], p: &mut [f64], d: usize, j: usize, from: usize, n: usize)
     requires { (length a.now ≡ d * d) × (length p.old ≡ 1024) × (j + 3 < d) × (from + n ≤ d) × (n ≤ 256) }
     ensures { Packed d a.now j from n p.new }
 {
-    let mut t = 0usize;
-    while t < n {
+    for t in 0..n {
         let x = get_four(a, d, from + t, j);
         pack_row(p, t, x);
-        t += 1;
     }
 }
 
@@ -279,20 +258,9 @@ fn update_row(a: &mut [f64], p: &[f64], d: usize, i: usize, from: usize, n: usiz
     requires { (length a.old ≡ d * d) × (length p.now ≡ 1024) × (i < d) × (from + n ≤ d) × (n ≤ 256) }
     ensures { RowUpdated d a.old a.new i from n x p.now }
 {
-    let mut t = 0usize;
-    while t < n {
+    for t in 0..n {
         update_cell(a, p, d, i, from, t, x);
-        t += 1;
     }
-}
-
-fn lesser(x: usize, y: usize) -> usize
-    ensures { result ≡ min x y }
-{
-    if x < y {
-        return x;
-    }
-    y
 }
 
 // Place t of the rows i and i + 1. Both are read before one is written.
@@ -329,11 +297,8 @@ fn update_pair(
     requires { (length a.old ≡ d * d) × (length p.now ≡ 1024) × (i + 1 < d) × (from + 2 * h ≤ d) × (2 * h ≤ 256) }
     ensures { PairUpdated d a.old a.new i from (2 * h) (2 * h) x y p.now }
 {
-    let n = 2 * h;
-    let mut t = 0usize;
-    while t < n {
+    for t in 0..2 * h {
         update_cells(a, p, d, i, from, t, x, y);
-        t += 1;
     }
 }
 
@@ -364,7 +329,7 @@ fn update_one(a: &mut [f64], p: &[f64], d: usize, j: usize, from: usize, n: usiz
     ensures { RowsUpdated d a.old a.new j from n i (i + 1) p.now }
 {
     let x = get_four(a, d, i, j);
-    let w = lesser(n, i + 1 - from);
+    let w = n.min(i + 1 - from);
     update_row(a, p, d, i, from, w, x);
 }
 
@@ -397,7 +362,7 @@ fn update_two(a: &mut [f64], p: &[f64], d: usize, j: usize, from: usize, n: usiz
 {
     let x = get_four(a, d, i, j);
     let y = get_four(a, d, i + 1, j);
-    let w = lesser(n, i + 1 - from);
+    let w = n.min(i + 1 - from);
     update_both(a, p, d, i, from, n, w, x, y);
 }
 
@@ -411,13 +376,11 @@ fn update_rows(a: &mut [f64], p: &[f64], d: usize, j: usize, from: usize, n: usi
         return;
     }
     update_one(a, p, d, j, from, n, from);
-    let mut i = from + 1;
-    while 2 <= rows - i {
+    for i in (from + 1..rows - 1).step_by(2) {
         update_two(a, p, d, j, from, n, i);
-        i += 2;
     }
-    if i < rows {
-        update_one(a, p, d, j, from, n, i);
+    if (rows - from) % 2 == 0 {
+        update_one(a, p, d, j, from, n, rows - 1);
     }
 }
 
@@ -444,11 +407,9 @@ fn update(a: &mut [f64], p: &mut [f64], d: usize, j: usize, rows: usize)
     requires { (length a.old ≡ d * d) × (length p.old ≡ 1024) × (j + 4 ≤ rows) × (rows ≤ d) }
     ensures { Updated d a.old a.new j (j + 4) rows rows }
 {
-    let mut from = j + 4;
-    while from < rows {
-        let n = lesser(256, rows - from);
+    for from in (j + 4..rows).step_by(256) {
+        let n = (rows - from).min(256);
         update_columns(a, p, d, j, from, n, rows);
-        from = from + n;
     }
 }
 
@@ -464,62 +425,51 @@ fn eliminate(a: &mut [f64], p: &mut [f64], d: usize, j: usize, rows: usize) -> u
     left
 }
 
-// The columns j to j + 3: the rows of their pivots, and then what is below. p holds packed columns.
-fn four_columns(a: &mut [f64], p: &mut [f64], d: usize, j: usize, rows: usize) -> Columns
+// The columns j to j + 3: the rows of their pivots, and then what is below. It gives the first row that is not made, or `rows`. p holds packed columns.
+fn four_columns(
+    a: &mut [f64],
+    p: &mut [f64],
+    d: usize,
+    j: usize,
+    rows: usize,
+) -> Result<usize, Breakdown>
     requires { (length a.old ≡ d * d) × (length p.old ≡ 1024) × (j + 4 ≤ rows) × (rows ≤ d) }
-    ensures { ColumnsEnd d a.old a.new j rows result.end result.rows }
+    ensures { ColumnsEnd d a.old a.new j rows result }
 {
-    let end = finish_rows(a, d, j, j + 4);
-    let Solve::Done = end else {
-        return Columns { end, rows };
-    };
-    let left = eliminate(a, p, d, j, rows);
-    Columns {
-        end: Solve::Done,
-        rows: left,
-    }
+    finish_rows(a, d, j, j + 4)?;
+    Ok(eliminate(a, p, d, j, rows))
 }
 
 // The rows that are left when fewer than four columns are. A row from `rows` on is refused unless one of them is.
-fn last_rows(a: &mut [f64], d: usize, j: usize, rows: usize) -> Solve
+fn last_rows(a: &mut [f64], d: usize, j: usize, rows: usize) -> Result<(), Breakdown>
     requires { (length a.old ≡ d * d) × (j ≤ rows) × (rows ≤ d) }
     ensures { Finishes d a.old a.new rows j result }
 {
-    let rest = finish_rows(a, d, j, rows);
-    let Solve::Done = rest else {
-        return rest;
-    };
+    finish_rows(a, d, j, rows)?;
     if rows < d {
-        return Solve::Stopped {
-            number: 16,
-            row: rows,
-        };
+        return Err(Breakdown::Factor(rows));
     }
-    Solve::Done
+    Ok(())
 }
 
 // Four columns at a time.
 // The rows from `rows` on are left, where that row has an entry that is not finite: what stops the factor above it comes first.
-fn factor_columns(a: &mut [f64], p: &mut [f64], d: usize) -> Solve
+fn factor_columns(a: &mut [f64], p: &mut [f64], d: usize) -> Result<(), Breakdown>
     requires { (length a.old ≡ d * d) × (length p.old ≡ 1024) }
     ensures { ended result a.new ≡ factor_of d a.old }
 {
     let mut rows = d;
     let mut j = 0usize;
+    // Kept: `rows` falls in the loop, and `j` is read after it.
     while 4 <= rows - j {
-        let columns = four_columns(a, p, d, j, rows);
-        let end = columns.end;
-        let Solve::Done = end else {
-            return end;
-        };
-        rows = columns.rows;
+        rows = four_columns(a, p, d, j, rows)?;
         j += 4;
     }
     last_rows(a, d, j, rows)
 }
 
 // The factor: the Rust's `cholesky_factor_in_place`.
-pub fn factor(a: &mut [f64], d: usize) -> Solve
+pub fn factor(a: &mut [f64], d: usize) -> Result<(), Breakdown>
     requires { length a.old ≡ d * d }
     ensures { ended result a.new ≡ factor_of d a.old }
 {
@@ -543,10 +493,8 @@ fn forward_vector(s: &[f64], d: usize, i: usize) -> Vec3
     ensures { result ≡ forward_vector d (take (d * d) s.now) (load vector s.now (d * d) d) i }
 {
     let mut v = get3(s, d * d + 3 * i);
-    let mut k = 0usize;
-    while k < i {
+    for k in 0..i {
         v = take_vector(s, d, i, k, k, v);
-        k += 1;
     }
     v.div(entry(s, d, i, i))
 }
@@ -556,11 +504,9 @@ fn forward(s: &mut [f64], d: usize)
     ensures { s.new ≡ store vector s.old (d * d)
         (forward_of d (take (d * d) s.old) (load vector s.old (d * d) d)) }
 {
-    let mut i = 0usize;
-    while i < d {
+    for i in 0..d {
         let v = forward_vector(s, d, i);
         put3(s, d * d + 3 * i, v);
-        i += 1;
     }
 }
 
@@ -570,10 +516,8 @@ fn back_vector(s: &[f64], d: usize, i: usize) -> Vec3
     ensures { result ≡ back_vector d (take (d * d) s.now) (load vector s.now (d * d) d) i }
 {
     let mut v = get3(s, d * d + 3 * i);
-    let mut k = i + 1;
-    while k < d {
+    for k in i + 1..d {
         v = take_vector(s, d, k, i, k, v);
-        k += 1;
     }
     v.div(entry(s, d, i, i))
 }
@@ -584,7 +528,7 @@ fn finite3(v: Vec3) -> bool
     is_finite(v.x) && (is_finite(v.y) && is_finite(v.z))
 }
 
-fn back_row(s: &mut [f64], d: usize, i: usize) -> Solve
+fn back_row(s: &mut [f64], d: usize, i: usize) -> Result<(), Breakdown>
     requires { (length s.old ≡ d * d + 3 * d) × (i < d) }
     ensures { Substituted d s.old s.new result
         (back_row d (take (d * d) s.old) i (load vector s.old (d * d) d)) }
@@ -592,30 +536,25 @@ fn back_row(s: &mut [f64], d: usize, i: usize) -> Solve
     let v = back_vector(s, d, i);
     if finite3(v) {
         put3(s, d * d + 3 * i, v);
-        return Solve::Done;
+        return Ok(());
     }
-    Solve::Stopped { number: 17, row: i }
+    Err(Breakdown::Solution(i))
 }
 
 // From the last row up.
-fn back(s: &mut [f64], d: usize) -> Solve
+fn back(s: &mut [f64], d: usize) -> Result<(), Breakdown>
     requires { length s.old ≡ d * d + 3 * d }
     ensures { Substituted d s.old s.new result
         (back_of d (take (d * d) s.old) (load vector s.old (d * d) d)) }
 {
-    let mut t = 0usize;
-    while t < d {
-        let step = back_row(s, d, d - 1 - t);
-        let Solve::Done = step else {
-            return step;
-        };
-        t += 1;
+    for i in (0..d).rev() {
+        back_row(s, d, i)?;
     }
-    Solve::Done
+    Ok(())
 }
 
 // Both substitutions: the Rust's `cholesky_solve_in_place`, for the three coordinates at once.
-pub fn substitute(s: &mut [f64], d: usize) -> Solve
+pub fn substitute(s: &mut [f64], d: usize) -> Result<(), Breakdown>
     requires { length s.old ≡ d * d + 3 * d }
     ensures { Substituted d s.old s.new result (back_of d (take (d * d) s.old)
         (forward_of d (take (d * d) s.old) (load vector s.old (d * d) d))) }

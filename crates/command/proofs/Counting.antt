@@ -1,4 +1,6 @@
 -- Laws of the number of parts. Assumes nothing.
+use Rattle.std.specs.Result.{result_unwrap_or}
+use Rattle.std.proofs.Common.{Ok, Result}
 use Prim.Native.Nat.{ℕ, ◌+◌}
 use mathlib.Core.Path.{◌≡◌, ap₂}
 use mathlib.Core.Bool.{◌&&◌}
@@ -9,30 +11,25 @@ use lib.Ieee.{Float}
 use borrow.Author.Tests.{le-leb, eq-eqb}
 use Rattle.network.specs.declared.Refusal.{Refusal}
 use Rattle.network.specs.declared.Shape.{Shape}
-use Rattle.network.specs.declared.Verdict.TheVariants.{Passed}
 use Rattle.network.specs.Network.{graph}
 use Rattle.network.specs.Refusals.{verdict, count_tests, length_tests}
 use Rattle.network.proofs.Verdicts.{both-passed}
-use Rattle.graph.specs.declared.Listing.{Listing}
-use Rattle.graph.specs.declared.Listing.TheVariants.{Refused, Parts}
 use Rattle.graph.specs.Distinct.{distinct}
 use Rattle.graph.specs.Outcome.{connectivity_fits, listing_fits, listing_tests, Labelled, ListingCall}
 use Rattle.command.specs.inner.Steps.{Small, GraphPassed, PartCount}
 use Rattle.command.proofs.Passing.{fits}
 
-module _ (s : Shape) (es : List ℕ) (ws : List Float) (nodes nodes' labels labels' : List ℕ) (answer : Listing) (call : ListingCall (graph s es ws) answer nodes nodes' labels labels')
+module _ (s : Shape) (es : List ℕ) (ws : List Float) (nodes nodes' labels labels' : List ℕ) (answer : Result ℕ Refusal) (call : ListingCall (graph s es ws) answer nodes nodes' labels labels')
     (P : GraphPassed (graph s es ws)) (small : Small s) (room : length nodes ≡ 744) (count : length labels ≡ s.cameras) where
-  parts-passed : verdict (listing_tests (graph s es ws) (length nodes) (length labels)) ≡ Passed
+  parts-passed : verdict (listing_tests (graph s es ws) (length nodes) (length labels)) ≡ Ok tt
   unfolding listing_tests listing_fits connectivity_fits
   parts-passed =
       both-passed (count_tests s) _ P.counts
       (both-passed (length_tests _) _ (fits (ap₂ ◌&&◌ (ap₂ ◌&&◌ P.fit (le-leb (s.cameras + s.points) (length nodes) (omega arith))) (eq-eqb _ _ count))) P.rows)
 
-  listed : (answer ≡ Parts (distinct labels')) × Labelled (graph s es ws) labels'
+  listed : (answer ≡ Ok (distinct labels')) × Labelled (graph s es ws) labels'
   listed = (rw parts-passed at call.parts, rw parts-passed at call.labels_out)
 
-  pub parts-counted : (k : ℕ) → answer ≡ Parts k → PartCount (graph s es ws) k
-  parts-counted k e = let l = listed.0 in let q : k ≡ distinct labels' = cc in record { labels = labels'; labelled = listed.1; counted = q }
-
-  pub parts-never : (r : Refusal) → answer ≡ Refused r → PartCount (graph s es ws) 0
-  parts-never r e = let l = listed.0 in absurd (let z : ◌≡◌ {A = ℕ} 0 1 = cc in omega arith)
+  -- the answer's number, which no refusal takes the place of
+  pub parts-counted : (k : ℕ) → k ≡ result_unwrap_or answer 0 → PartCount (graph s es ws) k
+  parts-counted k e = record { labels = labels'; labelled = listed.1; counted = rw listed.0 at e }

@@ -1,4 +1,7 @@
 -- Laws of the program's tests and answers. Assumes nothing.
+use Rattle.network.specs.declared.Cause.TheVariants.{Cameras, Sizes}
+use Rattle.std.proofs.Common.{Err, Ok, Result}
+use Rattle.placement.specs.declared.Report.{Report}
 use Prim.Native.Nat.{ℕ, ◌+◌, ◌*◌, ◌≤◌, ◌<◌}
 use mathlib.Core.Path.{◌≡◌, refl, sym, ap, subst, ◌∙◌}
 use mathlib.Core.Bool.{true}
@@ -9,17 +12,12 @@ use lib.Ieee.{Float}
 use borrow.Author.Tests.{lt-ltb, le-ltb}
 use Rattle.network.specs.declared.Refusal.{Refusal}
 use Rattle.network.specs.declared.Shape.{Shape}
-use Rattle.network.specs.declared.Verdict.{Verdict}
-use Rattle.network.specs.declared.Verdict.TheVariants as tested
+use Rattle.network.specs.Refusals.{Verdict}
 use Rattle.network.specs.Network.{rows}
 use Rattle.network.specs.Refusals.{test, verdict, count_tests, length_tests, end_tests}
 use Rattle.network.specs.inner.Sound.{ContentLengths}
 use Rattle.network.proofs.Verdicts.{verdict-one, refused-passed, halts-in, stage-passed, passed-test}
-use Rattle.placement.specs.declared.Answer.{Answer}
-use Rattle.placement.specs.declared.Answer.TheVariants.{Refused}
 use Rattle.layout.specs.Image.{Content, content}
-use Rattle.image.specs.declared.Counted.{Counted}
-use Rattle.image.specs.declared.Counted.TheVariants.{Refused as NoCounts, Of}
 use Rattle.image.specs.Reading.{shape_at, content_from, content_of}
 use Rattle.image.specs.Tests.{content_fits, image_tests, row_tests, counts_tests, read_tests}
 use Rattle.image.specs.Calls.{counts_if, counts_of, after, lists, read_verdict, Reads}
@@ -33,47 +31,47 @@ use Rattle.command.proofs.Passing.{fits, skipped, lengths-fit}
 
 -- ---- what the counts answered
 
-counted-refused : (v : Verdict) (s : Shape) (r : Refusal) → NoCounts r ≡ counts_if v s → v ≡ tested.Refused r
+counted-refused : (v : Verdict) (s : Shape) (r : Refusal) → Err r ≡ counts_if v s → v ≡ Err r
 unfolding counts_if
-counted-refused (tested.Refused q) s r e = let f : q ≡ r = cc in rw f
-counted-refused tested.Passed s r e = absurd (let z : ◌≡◌ {A = ℕ} 0 1 = cc in omega arith)
+counted-refused (Err q) s r e = let f : q ≡ r = cc in rw f
+counted-refused (Ok tt) s r e = absurd (let z : ◌≡◌ {A = ℕ} 0 1 = cc in omega arith)
 
-counted-passed : (v : Verdict) (s x : Shape) → Of x ≡ counts_if v s → (v ≡ tested.Passed) × (x ≡ s)
+counted-passed : (v : Verdict) (s x : Shape) → Ok x ≡ counts_if v s → (v ≡ Ok tt) × (x ≡ s)
 unfolding counts_if
-counted-passed (tested.Refused q) s x e = absurd (let z : ◌≡◌ {A = ℕ} 0 1 = cc in omega arith)
-counted-passed tested.Passed s x e = let f : x ≡ s = cc in (refl, f)
+counted-passed (Err q) s x e = absurd (let z : ◌≡◌ {A = ℕ} 0 1 = cc in omega arith)
+counted-passed (Ok tt) s x e = let f : x ≡ s = cc in (refl, f)
 
 -- ---- the outcome, by the verdict of the tests
 
-outcome-refused : (l : List ℕ) (x : Refusal) → verdict (program_tests l) ≡ tested.Refused x → (a : Answer) (t : List ℕ) → RefusedAs x a t → Outcome l a t
+outcome-refused : (l : List ℕ) (x : Refusal) → verdict (program_tests l) ≡ Err x → (a : Result Report Refusal) (t : List ℕ) → RefusedAs x a t → Outcome l a t
 outcome-refused l x e a t h = record {
-  refused = λ r q. let f : x ≡ r = cc in (h.answered ∙ ap Refused f, h.printed ∙ ap refused_line f);
+  refused = λ r q. let f : x ≡ r = cc in (h.answered ∙ ap Err f, h.printed ∙ ap refused_line f);
   passed = λ q. absurd (refused-passed x (sym e ∙ q));
 }
 
-outcome-passed : (l : List ℕ) → verdict (program_tests l) ≡ tested.Passed → (a : Answer) (t : List ℕ) → ImageSolved (content_of l) a t → Outcome l a t
+outcome-passed : (l : List ℕ) → verdict (program_tests l) ≡ Ok tt → (a : Result Report Refusal) (t : List ℕ) → ImageSolved (content_of l) a t → Outcome l a t
 outcome-passed l e a t h = record { refused = λ r q. absurd (refused-passed r (sym q ∙ e)); passed = λ q. h }
 
 -- ---- the length
 
 module _ (l : List ℕ) {r : Printed} {out out' : List ℕ} where
-  pub run_long : 16384 < length l → Prints (RefusedAs (record { number = 2; place = 0 })) r out out' → Prints (Outcome l) r out out'
+  pub run_long : 16384 < length l → Prints (RefusedAs (record { cause = Sizes; place = 0 })) r out out' → Prints (Outcome l) r out out'
   unfolding program_tests too_long test
   run_long h = prints-as (outcome-refused l _ (sym (halts-in _ _ refl (verdict-one _ ∙ rw (lt-ltb 16384 (length l) h)))))
 
-short-passed : (l : List ℕ) → length l ≤ 16384 → verdict (test 2 (too_long l) ∷ []) ≡ tested.Passed
+short-passed : (l : List ℕ) → length l ≤ 16384 → verdict (test Sizes (too_long l) ∷ []) ≡ Ok tt
 unfolding too_long
-short-passed l h = verdict-one _ ∙ passed-test 2 (le-ltb 16384 (length l) h)
+short-passed l h = verdict-one _ ∙ passed-test Sizes (le-ltb 16384 (length l) h)
 
 -- ---- the counts
 
-module _ (l : List ℕ) (short : length l ≤ 16384) (x : Counted) (e : x ≡ counts_of l) where
-  pub run-uncounted : (q : Refusal) → x ≡ NoCounts q → {r : Printed} {out out' : List ℕ} → Prints (RefusedAs q) r out out' → Prints (Outcome l) r out out'
+module _ (l : List ℕ) (short : length l ≤ 16384) (x : Result Shape Refusal) (e : x ≡ counts_of l) where
+  pub run-uncounted : (q : Refusal) → x ≡ Err q → {r : Printed} {out out' : List ℕ} → Prints (RefusedAs q) r out out' → Prints (Outcome l) r out out'
   unfolding program_tests counts_of
   run-uncounted q f =
       prints-as (outcome-refused l q (skipped _ _ (short-passed l short) ∙ sym (halts-in (counts_tests l) _ refl (counted-refused _ _ q (sym f ∙ e)))))
 
-  pub counts-passed : (s : Shape) → x ≡ Of s → CountsPassed l s
+  pub counts-passed : (s : Shape) → x ≡ Ok s → CountsPassed l s
   unfolding counts_of
   counts-passed s f = let p = counted-passed _ _ s (sym f ∙ e) in record { short = short; passed = p.0; shape = p.1 }
 
@@ -101,28 +99,28 @@ content-fit l = lengths-fit (shape_at 36 l) _ _ _ _ _ (record {
 -- ---- the 64 cameras
 
 module _ (l : List ℕ) (s : Shape) (k : CountsPassed l s) where
-  counted-verdict : verdict (program_tests l) ≡ verdict ((test 1 (too_many s) ∷ []) ++ row_tests (content_of l))
+  counted-verdict : verdict (program_tests l) ≡ verdict ((test Cameras (too_many s) ∷ []) ++ row_tests (content_of l))
   unfolding program_tests
   counted-verdict =
       skipped _ _ (short-passed l k.short) ∙ skipped (counts_tests l) _ k.passed
-      ∙ ap (λ t. verdict ((test 1 (too_many t) ∷ []) ++ row_tests (content_of l))) (sym k.shape)
+      ∙ ap (λ t. verdict ((test Cameras (too_many t) ∷ []) ++ row_tests (content_of l))) (sym k.shape)
 
-  pub run-many : 64 < s.cameras → {r : Printed} {out out' : List ℕ} → Prints (RefusedAs (record { number = 1; place = 0 })) r out out' → Prints (Outcome l) r out out'
+  pub run-many : 64 < s.cameras → {r : Printed} {out out' : List ℕ} → Prints (RefusedAs (record { cause = Cameras; place = 0 })) r out out' → Prints (Outcome l) r out out'
   unfolding too_many test
   run-many h = prints-as (outcome-refused l _ (counted-verdict ∙ sym (halts-in _ _ refl (verdict-one _ ∙ rw (lt-ltb 64 s.cameras h)))))
 
-  few-passed : s.cameras ≤ 64 → verdict (test 1 (too_many s) ∷ []) ≡ tested.Passed
+  few-passed : s.cameras ≤ 64 → verdict (test Cameras (too_many s) ∷ []) ≡ Ok tt
   unfolding too_many
-  few-passed h = verdict-one _ ∙ passed-test 1 (le-ltb 64 s.cameras h)
+  few-passed h = verdict-one _ ∙ passed-test Cameras (le-ltb 64 s.cameras h)
 
   -- ---- the network
 
   module _ (h : Small s) (es es' : List ℕ) (rs ws ss ps rs' ws' ss' ps' : List Float) (sized : ContentLengths s es rs ws ss ps)
-      (x : Counted) (reads : Reads l (lists es rs ws ss ps) x (lists es' rs' ws' ss' ps')) where
+      (x : Result Shape Refusal) (reads : Reads l (lists es rs ws ss ps) x (lists es' rs' ws' ss' ps')) where
     rows_run : verdict (program_tests l) ≡ verdict (row_tests (content_of l))
     rows_run = counted-verdict ∙ skipped _ _ (few-passed h.cameras)
 
-    counts-run : (verdict (image_tests l) ≡ tested.Passed) × (verdict (count_tests (shape_at 36 l)) ≡ tested.Passed)
+    counts-run : (verdict (image_tests l) ≡ Ok tt) × (verdict (count_tests (shape_at 36 l)) ≡ Ok tt)
     unfolding counts_tests
     counts-run = stage-passed (image_tests l) _ k.passed
 
@@ -134,8 +132,8 @@ module _ (l : List ℕ) (s : Shape) (k : CountsPassed l s) where
     unfolding read_verdict read_tests
     rows-read = skipped (image_tests l) _ counts-run.0 ∙ skipped (count_tests (shape_at 36 l)) _ counts-run.1 ∙ skipped (length_tests _) _ (fits lent_fits)
 
-    module _ (t : Shape) (f : x ≡ Of t) where
-      passed : read_verdict l (lists es rs ws ss ps) ≡ tested.Passed
+    module _ (t : Shape) (f : x ≡ Ok t) where
+      passed : read_verdict l (lists es rs ws ss ps) ≡ Ok tt
       passed = (counted-passed _ (shape_at 36 l) t (sym f ∙ reads.answer)).0
 
       content-read : content s es' rs' ws' ss' ps' ≡ content_of l
@@ -148,7 +146,7 @@ module _ (l : List ℕ) (s : Shape) (k : CountsPassed l s) where
           let j = rw passed at reads.stored.positions in
           rw (k.shape, a, d, g, i, j)
 
-      rows-passed : verdict (row_tests (content s es' rs' ws' ss' ps')) ≡ tested.Passed
+      rows-passed : verdict (row_tests (content s es' rs' ws' ss' ps')) ≡ Ok tt
       rows-passed = ap (λ (c : Content). verdict (row_tests c)) content-read ∙ sym rows-read ∙ passed
 
       content-sound : ContentSound (content s es' rs' ws' ss' ps')
@@ -166,11 +164,11 @@ module _ (l : List ℕ) (s : Shape) (k : CountsPassed l s) where
 
 -- ---- by the reader's answer
 
-module _ (l : List ℕ) (x : Counted) (s : Shape) (es : List ℕ) (rs ws ss ps : List Float) (R : ReadAs l x (content s es rs ws ss ps)) where
-  pub run-refused : (q : Refusal) → x ≡ NoCounts q → {r : Printed} {out out' : List ℕ} → Prints (RefusedAs q) r out out' → Prints (Outcome l) r out out'
+module _ (l : List ℕ) (x : Result Shape Refusal) (s : Shape) (es : List ℕ) (rs ws ss ps : List Float) (R : ReadAs l x (content s es rs ws ss ps)) where
+  pub run-refused : (q : Refusal) → x ≡ Err q → {r : Printed} {out out' : List ℕ} → Prints (RefusedAs q) r out out' → Prints (Outcome l) r out out'
   run-refused q f = prints-as (outcome-refused l q (R.refused q f))
 
-  module _ (t : Shape) (f : x ≡ Of t) where
+  module _ (t : Shape) (f : x ≡ Ok t) where
     pub read-sound : ContentSound (content s es rs ws ss ps)
     read-sound = (R.passed t f).2
 

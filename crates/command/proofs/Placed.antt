@@ -1,4 +1,7 @@
 -- A content that passes the reader's tests is solved: none of 1 to 8 refuses, and the answer is printed. Assumes nothing.
+use Rattle.network.specs.declared.Cause.TheVariants.{PointLists, Route}
+use Rattle.std.proofs.Common.{Ok, Result}
+use Rattle.network.specs.declared.Refusal.{Refusal}
 use Prim.Native.Nat.{ℕ, ◌-◌, ◌*◌, ◌≤◌}
 use mathlib.Core.Path.{◌≡◌, refl, sym, ap, ap₂, ◌∙◌}
 use mathlib.Core.Bool.{Bool, true, false, cond, not, ◌&&◌}
@@ -12,7 +15,6 @@ use borrow.Author.Tests.{ltb-false, le-leb, eq-eqb}
 use Rattle.field.specs.Buffer.{load, vector}
 use Rattle.field.proofs.Buffers.{vector-lawful, length-flat, load-flat}
 use Rattle.network.specs.declared.Shape.{Shape}
-use Rattle.network.specs.declared.Verdict.TheVariants.{Passed}
 use Rattle.network.specs.Network.{graph, Network, network}
 use Rattle.network.specs.Refusals.{verdict, count_tests, length_tests, lists_fit, network_fits, end_tests, list_tests, link_tests, network_row_tests, bad_route, route_tests, dense_rows}
 use Rattle.network.proofs.Verdicts.{verdict-one, passed-test, both-passed}
@@ -21,8 +23,6 @@ use Rattle.recover.specs.Recover.{points_of}
 use Rattle.graph.specs.Distinct.{distinct}
 use Rattle.iterative.specs.Reduced.{problem}
 use Rattle.iterative.specs.Accepted.{Accepted as Meaning}
-use Rattle.placement.specs.declared.Answer.{Answer}
-use Rattle.placement.specs.declared.Answer.TheVariants.{Accepted}
 use Rattle.placement.specs.declared.Report.{Report}
 use Rattle.placement.specs.Routes.{submission, buffers_fit, submission_tests, submission_verdict, Placement, rejected, failing, placed, placement, report}
 use Rattle.placement.specs.Solved.{answer_of, cameras_after, points_after, Solved as SolveCall}
@@ -61,7 +61,7 @@ answer-lines (placed route rounds cameras) net k cs ps = rw (vectors-flat camera
 
 -- the cameras that the output holds are those that are printed
 cameras-meant : (x : Placement) (net : Network) (parts : ℕ) (cs cs' : List Float) → cs' ≡ cameras_after x cs → length cs' ≡ 3 * net.shape.cameras → (p : Report) →
-    answer_of net x ≡ Accepted p → (p.anchor ≡ (problem net).anchor) × Meaning (problem net) (load vector cs' 0 net.shape.cameras) p.rounds →
+    answer_of net x ≡ Ok p → (p.anchor ≡ (problem net).anchor) × Meaning (problem net) (load vector cs' 0 net.shape.cameras) p.rounds →
     CamerasMeant net parts p (lines net parts x)
 cameras-meant (rejected r) net parts cs cs' f h p e m = absurd (let z : ◌≡◌ {A = ℕ} 0 1 = cc in omega arith)
 cameras-meant (failing r) net parts cs cs' f h p e m = absurd (let z : ◌≡◌ {A = ℕ} 0 1 = cc in omega arith)
@@ -87,16 +87,16 @@ module _ (s : Shape) (es : List ℕ) (rs ws ss ps : List Float) (C : ContentSoun
   unfolding net network_fits lists_fit
   network-fit = ap₂ ◌&&◌ C.fit (ap₂ ◌&&◌ (eq-eqb _ _ (offsets-table es s.bearings s.points).size) (eq-eqb _ _ (listed-placed rows-held).size))
 
-  rows-passed : verdict (network_row_tests net []) ≡ Passed
+  rows-passed : verdict (network_row_tests net []) ≡ Ok tt
   unfolding net network_row_tests link_tests list_tests
   rows-passed =
       both-passed (link_tests s es _ _) _
-      (both-passed (end_tests s es) _ C.ends (verdict-one _ ∙ passed-test 6 (ap not (sorted-holds s.points s.bearings es rows-held))))
+      (both-passed (end_tests s es) _ C.ends (verdict-one _ ∙ passed-test PointLists (ap not (sorted-holds s.points s.bearings es rows-held))))
       C.domain
 
-  route-passed : verdict (route_tests 3 48) ≡ Passed
+  route-passed : verdict (route_tests 3 48) ≡ Ok tt
   unfolding route_tests bad_route
-  route-passed = verdict-one _ ∙ passed-test 8 refl
+  route-passed = verdict-one _ ∙ passed-test Route refl
 
   module _ (ms : List ℕ) (a cs qs : List Float) (B : BuffersSized s ms a cs qs) where
     buffers-fit : buffers_fit s (length ms) 3 48 (length a) (length cs) (length qs) ≡ true
@@ -108,7 +108,7 @@ module _ (s : Shape) (es : List ℕ) (rs ws ss ps : List Float) (C : ContentSoun
         (ap₂ ◌&&◌ (eq-eqb _ _ B.cameras) (ap₂ ◌&&◌ (eq-eqb _ _ B.points) (le-leb (work_length s 3 48) (length a) (omega arith))))
 
     -- 1 to 8 refuse nothing
-    submission-passed : submission_verdict (submission net (length ms) 3 48 (length a) (length cs) (length qs)) ≡ Passed
+    submission-passed : submission_verdict (submission net (length ms) 3 48 (length a) (length cs) (length qs)) ≡ Ok tt
     unfolding submission_tests net
     submission-passed =
         both-passed (count_tests s) _ C.counts
@@ -119,7 +119,7 @@ module _ (s : Shape) (es : List ℕ) (rs ws ss ps : List Float) (C : ContentSoun
     unfolding placement net
     solve-passed = rw submission-passed
 
-  pub solved : (offsets listed : List ℕ) (k : ℕ) (answer : Answer) (ms ms' : List ℕ) (a a' cs cs' qs qs' : List Float) → Listed s es offsets listed →
+  pub solved : (offsets listed : List ℕ) (k : ℕ) (answer : Result Report Refusal) (ms ms' : List ℕ) (a a' cs cs' qs qs' : List Float) → Listed s es offsets listed →
       SolveCall (submission (network s es rs ws ss ps offsets listed) (length ms) 3 48 (length a) (length cs) (length qs)) answer ms ms' a a' cs cs' qs qs' →
       PartCount (graph s es ws) k → BuffersSized s ms a cs qs → length cs' ≡ length cs → ImageSolved (content s es rs ws ss ps) answer (text_of s k answer cs' qs')
   unfolding net
@@ -140,6 +140,6 @@ module _ (s : Shape) (es : List ℕ) (rs ws ss ps : List Float) (C : ContentSoun
       }
 
 -- what was solved is printed
-pub solved-printed : (s : Shape) (es : List ℕ) (rs ws ss ps : List Float) (k : ℕ) (x : Answer) (cs qs : List Float) {r : Printed} {out out' : List ℕ} →
+pub solved-printed : (s : Shape) (es : List ℕ) (rs ws ss ps : List Float) (k : ℕ) (x : Result Report Refusal) (cs qs : List Float) {r : Printed} {out out' : List ℕ} →
     SolvedAs (content s es rs ws ss ps) k x cs qs → Prints (AnsweredAs s k x cs qs) r out out' → Prints (ImageSolved (content s es rs ws ss ps)) r out out'
 solved-printed s es rs ws ss ps k x cs qs h = prints-as (λ b u q. rw (q.answered, q.printed) h.solved)

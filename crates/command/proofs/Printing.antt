@@ -1,6 +1,7 @@
 -- Laws of what is printed. Assumes nothing.
+use Rattle.std.proofs.Common.{Err, Ok, Result}
 use Prim.Native.Nat.{ℕ, ◌+◌, ◌/◌, ◌≤◌}
-use mathlib.Core.Path.{◌≡◌, refl, ap}
+use mathlib.Core.Path.{◌≡◌, refl}
 use mathlib.Core.List.{List}
 use native.Mathlib.Omega.{arith}
 use lib.ListN.{length}
@@ -8,11 +9,9 @@ use lib.Ieee.{Float}
 use borrow.Author.Tests.{le-leb}
 use Rattle.field.specs.declared.Vec3.{Vec3}
 use Rattle.field.specs.Buffer.{flat, vector, vectors_in}
-use Rattle.field.proofs.Buffers.{length-write, vector-lawful, length-flat, load-flat}
+use Rattle.field.proofs.Buffers.{vector-lawful, length-flat, load-flat}
 use Rattle.network.specs.declared.Refusal.{Refusal}
 use Rattle.network.specs.declared.Shape.{Shape}
-use Rattle.placement.specs.declared.Answer.{Answer}
-use Rattle.placement.specs.declared.Answer.TheVariants.{Refused, Accepted}
 use Rattle.placement.specs.declared.Report.{Report}
 use Rattle.text.specs.Lent.{Put, room, PutIfRoom}
 use Rattle.command.specs.declared.Printed.{Printed}
@@ -24,12 +23,12 @@ put-fits : (v : ℕ) {out out' text : List ℕ} {r : ℕ} → length out ≡ 655
 put-fits v {out} e h p = rw e at (rw (le-leb (room v) (length out) (omega arith)) at p)
 
 pub refusal-printed : (x : Refusal) (out out' : List ℕ) {r : ℕ} → PutIfRoom out out' 0 (refused_line x) r → length out ≡ 65536 →
-    Prints (RefusedAs x) (record { answer = Refused x; length = r }) out out'
+    Prints (RefusedAs x) (record { answer = Err x; length = r }) out out'
 refusal-printed x out out' p e = record { text = refused_line x; put = put-fits 0 e (omega arith) p; holds = record { answered = refl; printed = refl } }
 
 pub report-printed : (s : Shape) (k : ℕ) (p : Report) (cs ps : List Float) (out out' : List ℕ) {r : ℕ} →
     PutIfRoom out out' (length cs / 3 + length ps / 3) (placed_lines s k p (vectors_in cs) (vectors_in ps)) r → length out ≡ 65536 → (length cs ≤ 192) × (length ps ≤ 2040) →
-    Prints (AnsweredAs s k (Accepted p) cs ps) (record { answer = Accepted p; length = r }) out out'
+    Prints (AnsweredAs s k (Ok p) cs ps) (record { answer = Ok p; length = r }) out out'
 report-printed s k p cs ps out out' q e h = record {
   text = placed_lines s k p (vectors_in cs) (vectors_in ps);
   put = put-fits (length cs / 3 + length ps / 3) e (omega arith) q;
@@ -37,11 +36,11 @@ report-printed s k p cs ps out out' q e h = record {
 }
 
 -- an answer that was told apart
-module _ (s : Shape) (k : ℕ) (x : Answer) (cs ps : List Float) {r : Printed} {out out' : List ℕ} where
-  pub refused-printed : (q : Refusal) → x ≡ Refused q → Prints (RefusedAs q) r out out' → Prints (AnsweredAs s k x cs ps) r out out'
+module _ (s : Shape) (k : ℕ) (x : Result Report Refusal) (cs ps : List Float) {r : Printed} {out out' : List ℕ} where
+  pub refused-printed : (q : Refusal) → x ≡ Err q → Prints (RefusedAs q) r out out' → Prints (AnsweredAs s k x cs ps) r out out'
   refused-printed q e h = rw e h
 
-  pub accepted-printed : (p : Report) → x ≡ Accepted p → Prints (AnsweredAs s k (Accepted p) cs ps) r out out' → Prints (AnsweredAs s k x cs ps) r out out'
+  pub accepted-printed : (p : Report) → x ≡ Ok p → Prints (AnsweredAs s k (Ok p) cs ps) r out out' → Prints (AnsweredAs s k x cs ps) r out out'
   accepted-printed p e h = rw e h
 
 -- the vectors of their numbers
@@ -52,9 +51,5 @@ vectors-flat f =
     rw e (load-flat vector vector-lawful f (length f) refl)
 
 -- what holds of the answer and the text may be said otherwise
-pub prints-as : {P Q : Answer → List ℕ → Type 0} {r : Printed} {out out' : List ℕ} → ((a : Answer) (t : List ℕ) → P a t → Q a t) → Prints P r out out' → Prints Q r out out'
+pub prints-as : {P Q : Result Report Refusal → List ℕ → Type 0} {r : Printed} {out out' : List ℕ} → ((a : Result Report Refusal) (t : List ℕ) → P a t → Q a t) → Prints P r out out' → Prints Q r out out'
 prints-as f p = record { text = p.text; put = p.put; holds = f _ _ p.holds }
-
--- the text stands within the buffer, so a caller can take it as a part
-pub prints-within : {P : Answer → List ℕ → Type 0} {r : Printed} {out out' : List ℕ} → Prints P r out out' → length out ≡ 65536 → r.length ≤ length out'
-prints-within {out = out} p e = omega (arith, p.put.within, ap length p.put.written.bytes, length-write out 0 p.text)

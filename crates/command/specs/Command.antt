@@ -1,19 +1,18 @@
 -- What the solve program answers and prints (document 01, 'Network image (added) and the solve program').
+use Rattle.network.specs.declared.Cause.TheVariants.{Cameras, Sizes}
+use Rattle.std.specs.Prelude.{Err, Ok, Result}
 use Rattle.std.specs.Prelude.{ℕ, ◌≡◌, Bool, List, [], ◌∷◌, ◌++◌, length, ltb}
 use Rattle.field.specs.declared.Vec3.{Vec3}
 use Rattle.network.specs.declared.Refusal.{Refusal}
-use Rattle.network.specs.declared.Verdict.{Verdict}
-use Rattle.network.specs.declared.Verdict.TheVariants as tested
+use Rattle.network.specs.Refusals.{Verdict}
 use Rattle.network.specs.declared.Shape.{Shape}
 use Rattle.network.specs.Network.{Graph, graph, Network, network}
-use Rattle.network.specs.Refusals.{test, verdict}
+use Rattle.network.specs.Refusals.{number, test, verdict}
 use Rattle.graph.specs.Outcome.{Labelled}
 use Rattle.graph.specs.Distinct.{distinct}
 use Rattle.recover.specs.Recover.{points_of}
 use Rattle.iterative.specs.Reduced.{problem}
 use Rattle.iterative.specs.Accepted.{Accepted as Meaning}
-use Rattle.placement.specs.declared.Answer.{Answer}
-use Rattle.placement.specs.declared.Answer.TheVariants.{Refused, Accepted}
 use Rattle.placement.specs.declared.Report.{Report}
 use Rattle.placement.specs.Routes.{Placement, rejected, failing, placed, report, routed}
 use Rattle.placement.specs.Solved.{answer_of}
@@ -40,14 +39,14 @@ too_many s = ltb 64 s.cameras
 -- Nor does 2 of the counts, after 22: what is over those limits does not fit into 16,384 bytes.
 unfoldable pub program_tests : List ℕ → List Verdict
 program_tests bytes =
-    (test 2 (too_long bytes) ∷ [])
+    (test Sizes (too_long bytes) ∷ [])
     ++ (counts_tests bytes
-    ++ ((test 1 (too_many (shape_at 36 bytes)) ∷ [])
+    ++ ((test Cameras (too_many (shape_at 36 bytes)) ∷ [])
     ++ row_tests (content_of bytes)))
 
 -- the line of a refusal
 abbrev pub refused_line : Refusal → List ℕ
-refused_line r = refused_text r.number r.place
+refused_line r = refused_text (number r.cause) r.place
 
 -- ---- what is solved
 
@@ -85,28 +84,28 @@ pub record CamerasMeant (net : Network) (parts : ℕ) (p : Report) (text : List 
   pub meaning : Meaning (problem net) cameras p.rounds
 
 -- An image that no test refuses, with the content c: the answer and the text. There is one list of labels: `labelled-unique` of crates/graph.
-pub record ImageSolved (c : Content) (answer : Answer) (text : List ℕ) : Type 0 where
+pub record ImageSolved (c : Content) (answer : Result Report Refusal) (text : List ℕ) : Type 0 where
   pub labels : List ℕ
   pub labelled : Labelled (graph_of c) labels
   pub answered : answer ≡ answer_of (network_of c) (ending (network_of c))
   pub printed : text ≡ lines (network_of c) (distinct labels) (ending (network_of c))
   -- where the iterative part answered (`anchor A route 2 rounds K`)
-  pub meaning : (p : Report) → answer ≡ Accepted p → p.route ≡ 2 → CamerasMeant (network_of c) (distinct labels) p text
+  pub meaning : (p : Report) → answer ≡ Ok p → p.route ≡ 2 → CamerasMeant (network_of c) (distinct labels) p text
 
 -- ---- the whole program
 
 -- Of the bytes of its input: the answer and the text that it prints. The bytes alone fix both: `OutcomeUnique`.
-pub record Outcome (bytes : List ℕ) (answer : Answer) (text : List ℕ) : Type 0 where
-  pub refused : (r : Refusal) → verdict (program_tests bytes) ≡ tested.Refused r → (answer ≡ Refused r) × (text ≡ refused_line r)
-  pub passed : verdict (program_tests bytes) ≡ tested.Passed → ImageSolved (content_of bytes) answer text
+pub record Outcome (bytes : List ℕ) (answer : Result Report Refusal) (text : List ℕ) : Type 0 where
+  pub refused : (r : Refusal) → verdict (program_tests bytes) ≡ Err r → (answer ≡ Err r) × (text ≡ refused_line r)
+  pub passed : verdict (program_tests bytes) ≡ Ok tt → ImageSolved (content_of bytes) answer text
 
 -- proved in proofs/Unique.antt: `outcome-unique`
 pub record OutcomeUnique : Type 0 where
-  pub holds : (bytes : List ℕ) (a b : Answer) (t u : List ℕ) → Outcome bytes a t → Outcome bytes b u → (a ≡ b) × (t ≡ u)
+  pub holds : (bytes : List ℕ) (a b : Result Report Refusal) (t u : List ℕ) → Outcome bytes a t → Outcome bytes b u → (a ≡ b) × (t ≡ u)
 
 -- The answer and some text are such that P holds of them.
 -- The text stands at the front of the buffer, all of it, and every byte after it is as it was.
-pub record Prints (P : Answer → List ℕ → Type 0) (r : Printed) (buffer buffer' : List ℕ) : Type 0 where
+pub record Prints (P : Result Report Refusal → List ℕ → Type 0) (r : Printed) (buffer buffer' : List ℕ) : Type 0 where
   pub text : List ℕ
   pub put : Put buffer buffer' 0 text 65536 r.length
   pub holds : P r.answer text

@@ -9,15 +9,15 @@ mod solving;
 
 ghost use Rattle.command.specs.Command.{Outcome, Prints};
 
-use network::Refusal;
+use network::{Cause, Refusal};
 use output::refuse;
-use placement::Answer;
+use placement::Report;
 use reading::run_short;
 
 // The answer, and how many bytes of text stand at the front of the buffer.
 #[derive(Clone, Copy)]
 pub struct Printed {
-    pub answer: Answer,
+    pub answer: Result<Report, Refusal>,
     pub length: usize,
 }
 
@@ -29,7 +29,7 @@ pub fn run(bytes: &[u8], text: &mut [u8; 65536]) -> Printed
     if 16384 < bytes.len() {
         return refuse(
             Refusal {
-                number: 2,
+                cause: Cause::Sizes,
                 place: 0,
             },
             text,

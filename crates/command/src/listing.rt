@@ -16,7 +16,7 @@ fn list_rows(s: Shape, ends: &[usize], offsets: &mut [usize], listed: &mut [usiz
     requires offsets_len { (length offsets.old ≡ s.points + 1) × (length listed.old ≡ s.bearings) }
     ensures { Listed s ends.now offsets.new listed.new }
 {
-    list_points(s.points, s.bearings, ends, offsets, listed);
+    let _ = list_points(s.points, s.bearings, ends, offsets, listed);
 }
 
 // Builds the lists, with buffers of the lengths that the counts say, and goes on.

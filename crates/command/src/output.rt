@@ -1,21 +1,21 @@
 // What is printed.
-ghost use Rattle.std.specs.Prelude.{◌≤◌, length};
-ghost use Rattle.placement.specs.declared.Answer.TheVariants.{Accepted};
+ghost use Rattle.std.specs.Prelude.{◌≤◌, length, Ok};
 ghost use Rattle.command.specs.Command.{Prints};
 ghost use Rattle.command.specs.inner.Steps.{RefusedAs, AnsweredAs};
 
 use crate::Printed;
 use network::{Refusal, Shape};
-use placement::{Answer, Report};
-use text::{Counts, put_placed, put_refused};
+use placement::Report;
+use text::{put_placed, put_refused};
 
 // A refusal.
 pub fn refuse(refusal: Refusal, text: &mut [u8; 65536]) -> Printed
     ensures { Prints (RefusedAs refusal) result text.old text.new }
 {
-    let length = put_refused(refusal.number, refusal.place, text);
+    let number = refusal.cause.number();
+    let length = put_refused(number, refusal.place, text);
     Printed {
-        answer: Answer::Refused(refusal),
+        answer: Err(refusal),
         length,
     }
 }
@@ -30,24 +30,12 @@ fn accept(
     text: &mut [u8; 65536],
 ) -> Printed
     requires { (length cameras.now ≤ 192) × (length points.now ≤ 2040) }
-    ensures { Prints (AnsweredAs s parts (Accepted report) cameras.now points.now) result
+    ensures { Prints (AnsweredAs s parts (Ok report) cameras.now points.now) result
         text.old text.new }
 {
-    let counts = Counts {
-        cameras: s.cameras,
-        points: s.points,
-        bearings: s.bearings,
-        directions: s.directions,
-    };
-    let line = text::Report {
-        anchor: report.anchor,
-        route: report.route,
-        rounds: report.rounds,
-        few: report.few,
-    };
-    let length = put_placed(counts, parts, line, cameras, points, text);
+    let length = put_placed(s, parts, report, cameras, points, text);
     Printed {
-        answer: Answer::Accepted(report),
+        answer: Ok(report),
         length,
     }
 }
@@ -56,7 +44,7 @@ fn accept(
 pub fn print(
     s: Shape,
     parts: usize,
-    answer: Answer,
+    answer: Result<Report, Refusal>,
     cameras: &[f64],
     points: &[f64],
     text: &mut [u8; 65536],
@@ -66,7 +54,7 @@ pub fn print(
         text.old text.new }
 {
     match answer {
-        Answer::Refused(r) => refuse(r, text),
-        Answer::Accepted(report) => accept(s, parts, report, cameras, points, text),
+        Err(r) => refuse(r, text),
+        Ok(report) => accept(s, parts, report, cameras, points, text),
     }
 }

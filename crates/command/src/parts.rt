@@ -2,7 +2,6 @@
 ghost use Rattle.network.specs.Network.{graph};
 ghost use Rattle.command.specs.inner.Steps.{Small, GraphPassed, PartCount};
 
-use graph::Listing;
 use network::Shape;
 
 // Has the nodes of 64 cameras and 680 points.
@@ -14,9 +13,5 @@ pub fn count_parts(s: Shape, ends: &[usize], weights: &[f64]) -> usize
     let mut nodes = [0usize; 744];
     let mut labels = [0usize; 64];
     let n = s.cameras;
-    let listing = graph::parts(s, ends, weights, &mut nodes, &mut labels[..n]);
-    match listing {
-        Listing::Refused(_) => 0,
-        Listing::Parts(k) => k,
-    }
+    graph::parts(s, ends, weights, &mut nodes, &mut labels[..n]).unwrap_or(0)
 }

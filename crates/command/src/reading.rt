@@ -8,13 +8,13 @@ ghost use Rattle.command.specs.inner.Steps.{CountsPassed, Small, ReadAs};
 use crate::Printed;
 use crate::listing::place_read;
 use crate::output::refuse;
-use image::{Counted, counts, read};
-use network::{Refusal, Shape};
+use image::{counts, read};
+use network::{Cause, Refusal, Shape};
 
 // Refuses, or solves what was read.
 fn run_read(
     bytes: &[u8],
-    counted: Counted,
+    counted: Result<Shape, Refusal>,
     s: Shape,
     ends: &[usize],
     rays: &[f64],
@@ -28,8 +28,8 @@ fn run_read(
     ensures { Prints (Outcome bytes.now) result text.old text.new }
 {
     match counted {
-        Counted::Refused(r) => refuse(r, text),
-        Counted::Of(_) => place_read(s, ends, rays, weights, scales, points, text),
+        Err(r) => refuse(r, text),
+        Ok(_) => place_read(s, ends, rays, weights, scales, points, text),
     }
 }
 
@@ -88,7 +88,7 @@ fn run_counted(bytes: &[u8], s: Shape, text: &mut [u8; 65536]) -> Printed
     if 64 < s.cameras {
         return refuse(
             Refusal {
-                number: 1,
+                cause: Cause::Cameras,
                 place: 0,
             },
             text,
@@ -104,7 +104,7 @@ pub fn run_short(bytes: &[u8], text: &mut [u8; 65536]) -> Printed
 {
     let counted = counts(bytes);
     match counted {
-        Counted::Refused(r) => refuse(r, text),
-        Counted::Of(s) => run_counted(bytes, s, text),
+        Err(r) => refuse(r, text),
+        Ok(s) => run_counted(bytes, s, text),
     }
 }

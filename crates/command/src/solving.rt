@@ -6,14 +6,14 @@ ghost use Rattle.command.specs.inner.Steps.{Small, ContentSound, Listed, Buffers
 use crate::Printed;
 use crate::output::print;
 use crate::parts::count_parts;
-use network::Shape;
-use placement::{Answer, solve};
+use network::{Refusal, Shape};
+use placement::{Report, solve};
 
 // The number of parts, and the answer.
 #[derive(Clone, Copy)]
 struct Solution {
     parts: usize,
-    answer: Answer,
+    answer: Result<Report, Refusal>,
 }
 
 // Counts the parts and solves, with outputs of the lengths that the counts say.

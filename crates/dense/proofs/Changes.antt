@@ -101,10 +101,6 @@ module _ (s : Shape) (d : ℕ) (l : List Float) (room : work_end s d ≤ length 
       changed-both (times f k) (f k) (times f (k + 1)) m w
       (local-times s d f k (λ i b. h i (omega arith))) (h k (omega arith)) e g (λ v ts A. rw (add-one, upto-suc))
 
-pub changes-ended : (s : Shape) (d : ℕ) (l w : List Float) (f : ℕ → MatrixChange) (k n : ℕ) →
-    w ≡ matrix_changed s d (times f k) l → n ≤ k → k ≤ n → w ≡ matrix_changed s d (times f n) l
-changes-ended s d l w f k n e a b = let q : k ≡ n = omega arith in rw q at e
-
 -- the matrix cleared
 pub cleared : (s : Shape) (d p e : ℕ) (l ys : List Float) → work_end s d ≤ length l → p ≡ matrix_at s → e ≡ dense_right_at s d →
     ys ≡ replicate (d * d) null ++ drop (d * d) (mid_of p (e - p) l) → put_mid p (e - p) l ys ≡ write l (matrix_at s) (replicate (d * d) null)

@@ -3,7 +3,9 @@ use mathlib.Core.Path.{◌≡◌, refl}
 use Rattle.sqrt.specs.Root.{root}
 use Rattle.system.specs.Edges.{directed, pair, triple}
 use Rattle.system.proofs.Computing.{assembly}
-use Rattle.cholesky.specs.Cholesky.{stopped, run, remainder, factor_entry, pivot, factor_row, factor, solution}
+use Rattle.std.proofs.Common.{Err}
+use Rattle.cholesky.specs.declared.Breakdown.TheVariants.{Pivot, Factor}
+use Rattle.cholesky.specs.Cholesky.{run, remainder, factor_entry, pivot, factor_row, factor, solution}
 use Rattle.dense.specs.Rows.{dense_row}
 use Rattle.dense.specs.Matrix.{times, set_diagonal, couple, diagonal_step, couple_cameras, pair_step, place_step, point_step, direction_step, couplings, matrix_by}
 use Rattle.dense.specs.Dense.{cameras_by, dense_solution}
@@ -14,10 +16,10 @@ unfolding assembly root dense_solution cameras_by solution factor factor_row fac
     matrix_by couplings point_step place_step pair_step direction_step diagonal_step couple_cameras set_diagonal couple times dense_row
 computing = tt
 
-pub pair-stops : dense_solution pair ≡ stopped 15 0
+pub pair-stops : dense_solution pair ≡ Err (Pivot 0)
 unfolding computing directed
 pair-stops = refl
 
-pub triple-stops : dense_solution triple ≡ stopped 16 1
+pub triple-stops : dense_solution triple ≡ Err (Factor 1)
 unfolding computing triple
 triple-stops = refl

@@ -7,9 +7,8 @@ use native.Mathlib.Nat.{max-eq_left, max-eq_right, min-eq_left, min-eq_right}
 use native.Mathlib.Omega.{arith}
 use borrow.Author.Tests.{eq-eqb, ne_eqb, lt-ltb, le-ltb, ltb-true, ltb-false}
 use lib.Dec.{ltb}
+use Rattle.std.proofs.Common.{Option, Some, None}
 use Rattle.dense.specs.declared.rows.DenseRow.{DenseRow}
-use Rattle.dense.specs.declared.rows.Row.{Row}
-use Rattle.dense.specs.declared.rows.Row.TheVariants.{Anchor, Dense}
 use Rattle.dense.specs.Rows.{dense_row, camera_of}
 use Rattle.dense.specs.Matrix.{lower_place}
 use Rattle.dense.specs.inner.Held.{RowWithin}
@@ -24,15 +23,15 @@ order c a = go (ltb c a) (ltb a c) refl refl
     go false true e f = inr (inr (ltb-true a c f))
     go false false e f = inr (inl (omega (arith, ltb-false c a e, ltb-false a c f)))
 
-pub row_below : (c a : ℕ) → (c ≡ a → ⊥) → c < a → Dense (record { 0 = c }) ≡ dense_row c a
+pub row_below : (c a : ℕ) → (c ≡ a → ⊥) → c < a → Some (record { 0 = c }) ≡ dense_row c a
 unfolding dense_row
 row_below c a n h = simp (ne_eqb c a n, lt-ltb c a h)
 
-pub row-anchor : (c a : ℕ) → c ≡ a → Anchor ≡ dense_row c a
+pub row-anchor : (c a : ℕ) → c ≡ a → None ≡ dense_row c a
 unfolding dense_row
 row-anchor c a e = simp (eq-eqb c a e)
 
-pub row-above : (c a : ℕ) → (c ≡ a → ⊥) → a ≤ c → Dense (record { 0 = c - 1 }) ≡ dense_row c a
+pub row-above : (c a : ℕ) → (c ≡ a → ⊥) → a ≤ c → Some (record { 0 = c - 1 }) ≡ dense_row c a
 unfolding dense_row
 row-above c a n h = simp (ne_eqb c a n, le-ltb c a h)
 
@@ -44,10 +43,10 @@ row_within d c a h k =
     (order c a)
 
 -- a camera's row is one of the d = n - 1 rows
-pub within-row : (d n c a : ℕ) (r : Row) → r ≡ dense_row c a → d + 1 ≡ n → c < n → a < n → RowWithin d r
+pub within-row : (d n c a : ℕ) (r : Option DenseRow) → r ≡ dense_row c a → d + 1 ≡ n → c < n → a < n → RowWithin d r
 within-row d n c a r e z h k = rw e (row_within d c a (omega arith) (omega arith))
 
-pub within-dense : (d : ℕ) (r : Row) (p : DenseRow) → RowWithin d r → r ≡ Dense p → p.0 < d
+pub within-dense : (d : ℕ) (r : Option DenseRow) (p : DenseRow) → RowWithin d r → r ≡ Some p → p.0 < d
 within-dense d r p w e = subst (RowWithin d) e w
 
 -- how many rows the cameras below c have
@@ -68,9 +67,9 @@ pub record Next (a c : ℕ) (p : DenseRow) : Type 0 where
   pub more : rows_below a (c + 1) ≡ suc (rows_below a c)
   pub camera : camera_of p.0 a ≡ c
 
-abbrev Count : ℕ → ℕ → Row → Type 0
-Count a c Anchor = rows_below a (c + 1) ≡ rows_below a c
-Count a c (Dense p) = Next a c p
+abbrev Count : ℕ → ℕ → Option DenseRow → Type 0
+Count a c None = rows_below a (c + 1) ≡ rows_below a c
+Count a c (Some p) = Next a c p
 
 next-below : (a c : ℕ) → c < a → Next a c (record { 0 = c })
 unfolding camera_of rows_below
@@ -98,10 +97,10 @@ count a c =
     (λ (b : a < c). rw (← row-above c a (λ e. omega arith) (omega arith)) (next-above a c b)))
     (order c a)
 
-pub count-anchor : (a c : ℕ) → dense_row c a ≡ Anchor → rows_below a (c + 1) ≡ rows_below a c
+pub count-anchor : (a c : ℕ) → dense_row c a ≡ None → rows_below a (c + 1) ≡ rows_below a c
 count-anchor a c e = subst (Count a c) e (count a c)
 
-pub count-dense : (a c : ℕ) (p : DenseRow) → dense_row c a ≡ Dense p → Next a c p
+pub count-dense : (a c : ℕ) (p : DenseRow) → dense_row c a ≡ Some p → Next a c p
 count-dense a c p e = subst (Count a c) e (count a c)
 
 -- ---- the lower triangle

@@ -17,9 +17,8 @@ use Rattle.network.specs.declared.Shape.{Shape}
 use Rattle.system.specs.declared.CameraTerm.{CameraTerm}
 use Rattle.system.specs.System.{term_at}
 use Rattle.system.specs.Work.{term, term_place, positions_at, dense_right_at}
+use Rattle.std.proofs.Common.{Option, Some, None}
 use Rattle.dense.specs.declared.rows.DenseRow.{DenseRow}
-use Rattle.dense.specs.declared.rows.Row.{Row}
-use Rattle.dense.specs.declared.rows.Row.TheVariants.{Anchor, Dense}
 use Rattle.dense.specs.Rows.{dense_row, camera_of}
 use Rattle.dense.specs.Dense.{right_of, row_vector, camera_vector}
 use Rattle.dense.specs.inner.Held.{RowWithin, put_row}
@@ -28,21 +27,21 @@ use Rattle.dense.proofs.Steps.{term-read}
 
 -- ---- a row's vector
 
-pub put-anchor : (l : List Float) (p : ℕ) (r : Row) (v : Vec3) → r ≡ Anchor → l ≡ put_row p r v l
+pub put-anchor : (l : List Float) (p : ℕ) (r : Option DenseRow) (v : Vec3) → r ≡ None → l ≡ put_row p r v l
 unfolding put_row
 put-anchor l p r v e = rw e
 
-pub put-dense : (l w : List Float) (p k : ℕ) (r : Row) (q : DenseRow) (v : Vec3) → r ≡ Dense q → k ≡ p + 3 * q.0 → w ≡ put vector l k v → w ≡ put_row p r v l
+pub put-dense : (l w : List Float) (p k : ℕ) (r : Option DenseRow) (q : DenseRow) (v : Vec3) → r ≡ Some q → k ≡ p + 3 * q.0 → w ≡ put vector l k v → w ≡ put_row p r v l
 unfolding put_row
 put-dense l w p k r q v e f g = rw (e, ← f) g
 
-pub vector-dense : (l : List Float) (p d k : ℕ) (r : Row) (q : DenseRow) (v : Vec3) → r ≡ Dense q → RowWithin d r → k ≡ p + 3 * q.0 →
+pub vector-dense : (l : List Float) (p d k : ℕ) (r : Option DenseRow) (q : DenseRow) (v : Vec3) → r ≡ Some q → RowWithin d r → k ≡ p + 3 * q.0 →
     v ≡ get vector l k → v ≡ row_vector (load vector l p d) r
 vector-dense l p d k r q v e h f g = rw e (g ∙ rw f (sym (at_load vector l p d q.0 origin (within-dense d r q h e))))
 
 -- ---- the right side
 
-pub right-put : (s : Shape) (a d at c : ℕ) (l w : List Float) (t : CameraTerm) (row : Row) → c < s.cameras → at ≡ dense_right_at s d →
+pub right-put : (s : Shape) (a d at c : ℕ) (l w : List Float) (t : CameraTerm) (row : Option DenseRow) → c < s.cameras → at ≡ dense_right_at s d →
     t ≡ get term l (term_place c) → row ≡ dense_row c a → w ≡ put_row at row t.right l →
     w ≡ put_row (dense_right_at s d) (dense_row c a) (term_at (load term l 0 s.cameras) c).right l
 right-put s a d at c l w t row h ea et er e = let q = term-read l s.cameras c t h et in rw (q, ← ea, ← er) e
@@ -60,9 +59,9 @@ module _ (s : Shape) (a d : ℕ) (l : List Float) where
   unfolding put_row
   right-more c w u h ew eu = go (dense_row c a) refl eu
     where
-      go : (r : Row) → dense_row c a ≡ r → u ≡ put_row (dense_right_at s d) r (term_at (load term w 0 s.cameras) c).right w → u ≡ filled (c + 1)
-      go Anchor e f = rw (count-anchor a c e) (f ∙ ew)
-      go (Dense q) e f =
+      go : (r : Option DenseRow) → dense_row c a ≡ r → u ≡ put_row (dense_right_at s d) r (term_at (load term w 0 s.cameras) c).right w → u ≡ filled (c + 1)
+      go None e f = rw (count-anchor a c e) (f ∙ ew)
+      go (Some q) e f =
           let t = count-dense a c q e in
           let z : camera_of (rows_below a c) a ≡ c = rw t.row at t.camera in
           let k : load term w 0 s.cameras ≡ load term l 0 s.cameras = rw ew (load-store-apart term vector vector-lawful l (dense_right_at s d) _ 0 s.cameras (inr (omega arith))) in
@@ -79,7 +78,7 @@ module _ (s : Shape) (a d : ℕ) (l : List Float) where
 
 -- ---- the cameras
 
-pub camera-put : (s : Shape) (a d at into c : ℕ) (l w : List Float) (v : Vec3) (row : Row) → at ≡ dense_right_at s d → into ≡ positions_at s → row ≡ dense_row c a →
+pub camera-put : (s : Shape) (a d at into c : ℕ) (l w : List Float) (v : Vec3) (row : Option DenseRow) → at ≡ dense_right_at s d → into ≡ positions_at s → row ≡ dense_row c a →
     v ≡ row_vector (load vector l at d) row → w ≡ put vector l (into + 3 * c) v →
     w ≡ put vector l (positions_at s + 3 * c) (camera_vector a (load vector l (dense_right_at s d) d) c)
 camera-put s a d at into c l w v row ea ei er ev e = rw (← ea, ← ei, ← er, ← ev) e
@@ -98,6 +97,3 @@ module _ (s : Shape) (a d : ℕ) (l : List Float) where
       let x : load vector w (dense_right_at s d) d ≡ load vector l (dense_right_at s d) d =
       rw ew (load-store-apart vector vector vector-lawful l (positions_at s) (field c g) (dense_right_at s d) d (inl (omega arith))) in
       eu ∙ rw add-one (map_more vector vector-lawful l (positions_at s) c g w _ ew (ap (λ (y : List Vec3). camera_vector a y c) x))
-
-  pub spread-ended : (c n : ℕ) (w : List Float) (g : ℕ → Vec3) → w ≡ store vector l (positions_at s) (field c g) → c ≤ n → n ≤ c → w ≡ store vector l (positions_at s) (field n g)
-  spread-ended c n w g e h k = let q : c ≡ n = omega arith in rw q at e

@@ -21,9 +21,9 @@ use Rattle.system.specs.System.{Weights, weights_of, terms, anchor}
 use Rattle.system.specs.Work.{positions_at, right_at, weights_at, effective_at, matrix_at, dense_right_at, work_end, term}
 use Rattle.system.specs.inner.Formed.{weights_in, Segments}
 use Rattle.system.proofs.Forming.{held_at, part-store}
-use Rattle.cholesky.specs.declared.Solve.{Solve}
-use Rattle.cholesky.specs.declared.Solve.TheVariants.{Done, Stopped}
-use Rattle.cholesky.specs.Cholesky.{Result, done, stopped, then, ended, factor, forward, back, substitution, solution, Substituted}
+use Rattle.std.proofs.Common.{Result, Ok, Err}
+use Rattle.cholesky.specs.declared.Breakdown.{Breakdown}
+use Rattle.cholesky.specs.Cholesky.{then, ended, factor, forward, back, substitution, solution, Substituted}
 use Rattle.cholesky.proofs.Factored.{ended-done, ended-stopped}
 use Rattle.dense.specs.Matrix.{matrix_by}
 use Rattle.dense.specs.Dense.{dimension, right_of, camera_vector, spread, cameras_by, dense_solution_by, dense_solution}
@@ -62,7 +62,7 @@ part-written l m xs p n e h k = rw (e, ← h) (part_same l p xs (omega arith))
 
 -- ---- the factor, and the solution of the right side
 
-module _ (s : Shape) (d : ℕ) (l ys : List Float) (p q : ℕ) (r : Solve) (room : work_end s d ≤ length l) (ep : p ≡ matrix_at s) (eq : q ≡ dense_right_at s d) where
+module _ (s : Shape) (d : ℕ) (l ys : List Float) (p q : ℕ) (r : Result (Unit {0}) Breakdown) (room : work_end s d ≤ length l) (ep : p ≡ matrix_at s) (eq : q ≡ dense_right_at s d) where
   pub factored : length ys ≡ length (mid_of p (q - p) l) → ended r ys ≡ factor d (mid_of p (q - p) l) → MatrixFactored s d l (put_mid p (q - p) l ys) r
   factored ey er =
       let n = d * d in
@@ -92,7 +92,7 @@ module _ (s : Shape) (d : ℕ) (l ys : List Float) (p q : ℕ) (r : Solve) (room
 
 -- ---- the cameras
 
-module _ (s : Shape) (a d : ℕ) (l w v : List Float) (r : Solve) (room : work_end s d ≤ length l)
+module _ (s : Shape) (a d : ℕ) (l w v : List Float) (r : Result (Unit {0}) Breakdown) (room : work_end s d ≤ length l)
     (ew : w ≡ store vector l (dense_right_at s d) (field d (right_of a (load term l 0 s.cameras)))) (g : RightSolved s d w v r) where
   abbrev b : List Vec3
   b = field d (right_of a (load term l 0 s.cameras))
@@ -107,48 +107,48 @@ module _ (s : Shape) (a d : ℕ) (l w v : List Float) (r : Solve) (room : work_e
       let y : part w (matrix_at s) (d * d) ≡ part l (matrix_at s) (d * d) = rw ew (part-store vector vector-lawful l (dense_right_at s d) b (matrix_at s) (d * d) (inr (omega arith))) in
       rw (x, y) at g.answer
 
-  pub placed-stops : (k i : ℕ) → r ≡ Stopped k i → DenseSolved s d (cameras_of s a d (load term l 0 s.cameras) (part l (matrix_at s) (d * d))) l v r
-  placed-stops k i t =
-      let q : substitution d b (part l (matrix_at s) (d * d)) ≡ stopped k i = ended-stopped r _ _ k i substituted t in
-      record { answer = rw (q, t) refl; kept = kept-kept s d l w v kept-w g.kept }
+  pub placed-stops : (k : Breakdown) → r ≡ Err k → DenseSolved s d (cameras_of s a d (load term l 0 s.cameras) (part l (matrix_at s) (d * d))) l v (Err k)
+  placed-stops k t =
+      let q : substitution d b (part l (matrix_at s) (d * d)) ≡ Err k = ended-stopped r _ _ k substituted t in
+      record { answer = rw q refl; kept = kept-kept s d l w v kept-w g.kept }
 
-  pub placed-done : (u : List Float) → r ≡ Done → u ≡ store vector v (positions_at s) (field s.cameras (camera_vector a (load vector v (dense_right_at s d) d))) →
-      DenseSolved s d (cameras_of s a d (load term l 0 s.cameras) (part l (matrix_at s) (d * d))) l u Done
+  pub placed-done : (u : List Float) → r ≡ Ok tt → u ≡ store vector v (positions_at s) (field s.cameras (camera_vector a (load vector v (dense_right_at s d) d))) →
+      DenseSolved s d (cameras_of s a d (load term l 0 s.cameras) (part l (matrix_at s) (d * d))) l u (Ok tt)
   unfolding spread
   placed-done u t eu =
       let n = s.cameras in
       let x = camera_vector a (load vector v (dense_right_at s d) d) in
       let z : length (field n x) ≡ n = length-field n x in
       let lv : length v ≡ length l = g.kept.size ∙ kept-w.size in
-      let q : substitution d b (part l (matrix_at s) (d * d)) ≡ done (load vector v (dense_right_at s d) d) = ended-done r _ _ substituted t in
+      let q : substitution d b (part l (matrix_at s) (d * d)) ≡ Ok (load vector v (dense_right_at s d) d) = ended-done r _ _ substituted t in
       record {
-        answer = rw q (ap done (rw eu (load_store vector vector-lawful v (positions_at s) (field n x) n z (omega arith))));
+        answer = rw q (ap Ok (rw eu (load_store vector vector-lawful v (positions_at s) (field n x) n z (omega arith))));
         kept = kept-kept s d l v u (kept-kept s d l w v kept-w g.kept) (kept_store s d vector vector-lawful v u (positions_at s) (field n x) eu (inl (omega arith, omega arith)));
       }
 
 -- ---- the factor and the cameras
 
-then-assoc : {A B C : Type 0} (x : Result A) (f : A → Result B) (g : B → Result C) → then (then x f) g ≡ then x (λ y. then (f y) g)
-then-assoc (done x) f g = refl
-then-assoc (stopped k i) f g = refl
+then-assoc : {A B C : Type 0} (x : Result A Breakdown) (f : A → Result B Breakdown) (g : B → Result C Breakdown) → then (then x f) g ≡ then x (λ y. then (f y) g)
+then-assoc (Ok x) f g = refl
+then-assoc (Err b) f g = refl
 
-module _ (s : Shape) (a d : ℕ) (l w : List Float) (f : Solve) (ed : d + 1 ≡ s.cameras) (g : MatrixFactored s d l w f) where
+module _ (s : Shape) (a d : ℕ) (l w : List Float) (f : Result (Unit {0}) Breakdown) (ed : d + 1 ≡ s.cameras) (g : MatrixFactored s d l w f) where
   of-factor : cameras_by s a (load term l 0 s.cameras) (part l (matrix_at s) (d * d)) ≡ then (ended f (part w (matrix_at s) (d * d))) (cameras_of s a d (load term l 0 s.cameras))
   unfolding cameras_by solution
   of-factor =
       let q : dimension s ≡ d = omega arith in
       rw (q, ← g.answer) (then-assoc (ended f (part w (matrix_at s) (d * d))) (substitution d (field d (right_of a (load term l 0 s.cameras)))) (spread s.cameras a))
 
-  pub matrix-stops : (k i : ℕ) → f ≡ Stopped k i → DenseSolved s d (cameras_by s a (load term l 0 s.cameras) (part l (matrix_at s) (d * d))) l w f
-  matrix-stops k i t = record { answer = rw t (sym (rw t at of-factor)); kept = g.kept }
+  pub matrix-stops : (b : Breakdown) → f ≡ Err b → DenseSolved s d (cameras_by s a (load term l 0 s.cameras) (part l (matrix_at s) (d * d))) l w (Err b)
+  matrix-stops b t = record { answer = sym (rw t at of-factor); kept = g.kept }
 
-  pub matrix-solved : (u : List Float) (r : Solve) → f ≡ Done → DenseSolved s d (cameras_of s a d (load term w 0 s.cameras) (part w (matrix_at s) (d * d))) w u r →
+  pub matrix-solved : (u : List Float) (r : Result (Unit {0}) Breakdown) → f ≡ Ok tt → DenseSolved s d (cameras_of s a d (load term w 0 s.cameras) (part w (matrix_at s) (d * d))) w u r →
       DenseSolved s d (cameras_by s a (load term l 0 s.cameras) (part l (matrix_at s) (d * d))) l u r
   matrix-solved u r t h = record { answer = (rw g.kept.terms at h.answer) ∙ sym (rw t at of-factor); kept = kept-kept s d l w u g.kept h.kept }
 
 -- ---- the whole
 
-pub dense-done : (s : Shape) (ends offsets listed : List ℕ) (a : ℕ) (l w u : List Float) (r : Solve) → LinksSound (links s ends offsets listed) → work_end s (s.cameras - 1) ≤ length l →
+pub dense-done : (s : Shape) (ends offsets listed : List ℕ) (a : ℕ) (l w u : List Float) (r : Result (Unit {0}) Breakdown) → LinksSound (links s ends offsets listed) → work_end s (s.cameras - 1) ≤ length l →
     w ≡ write l (matrix_at s) (matrix_by (links s ends offsets listed) (weights_in s l) (load term l 0 s.cameras) a (s.cameras - 1)) →
     DenseSolved s (s.cameras - 1) (cameras_by s a (load term w 0 s.cameras) (part w (matrix_at s) ((s.cameras - 1) * (s.cameras - 1)))) w u r →
     DenseSolved s (dimension s) (dense_solution_by (links s ends offsets listed) (weights_in s l) (load term l 0 s.cameras) a) l u r

@@ -1,6 +1,6 @@
 -- The reduced camera matrix of d = n - 1 rows, its lower triangle, row by row in a list of d × d numbers (document 01, 'Dense'; what the Rust's
 -- `factor_reduced_dense` assembles).
-use Rattle.std.specs.Prelude.{ℕ, ◌+◌, ◌-◌, ◌*◌, min, max, List, cond, get_or, set, replicate, Float}
+use Rattle.std.specs.Prelude.{ℕ, ◌+◌, ◌-◌, ◌*◌, min, max, List, cond, get_or, set, replicate, Float, Option, Some, None}
 use Rattle.std.specs.Float.{nan, binary64}
 use Rattle.std.specs.Float.Ieee.{add, mul, div, neg, lt}
 use Rattle.field.specs.Vec.{null}
@@ -10,8 +10,6 @@ use Rattle.network.specs.Network.{Network, Links, links_of, first_end, second_en
 use Rattle.system.specs.declared.CameraTerm.{CameraTerm}
 use Rattle.system.specs.System.{Weights, weights_of, terms, term_at, tiny, ridge}
 use Rattle.dense.specs.declared.rows.DenseRow.{DenseRow}
-use Rattle.dense.specs.declared.rows.Row.{Row}
-use Rattle.dense.specs.declared.rows.Row.TheVariants.{Anchor, Dense}
 use Rattle.dense.specs.Rows.{dense_row}
 
 -- the place of the entry of two rows: the greater is its row, the other its column
@@ -19,15 +17,15 @@ abbrev pub lower_place : ℕ → DenseRow → DenseRow → ℕ
 lower_place d p q = max p.0 q.0 * d + min p.0 q.0
 
 -- a row's diagonal v with the ridge; nothing for the anchor (the Rust multiplies v by 1 + 0.0 before, which changes no double)
-unfoldable pub set_diagonal : ℕ → Row → Float → List Float → List Float
-set_diagonal d Anchor v A = A
-set_diagonal d (Dense p) v A = set A (lower_place d p p) (add binary64 v ridge)
+unfoldable pub set_diagonal : ℕ → Option DenseRow → Float → List Float → List Float
+set_diagonal d None v A = A
+set_diagonal d (Some p) v A = set A (lower_place d p p) (add binary64 v ridge)
 
 -- v added to the entry of two rows, in the lower triangle; nothing where one of them is the anchor's
-unfoldable pub couple : ℕ → Row → Row → Float → List Float → List Float
-couple d Anchor q v A = A
-couple d (Dense p) Anchor v A = A
-couple d (Dense p) (Dense q) v A = let k = lower_place d p q in set A k (add binary64 (get_or A k nan) v)
+unfoldable pub couple : ℕ → Option DenseRow → Option DenseRow → Float → List Float → List Float
+couple d None q v A = A
+couple d (Some p) None v A = A
+couple d (Some p) (Some q) v A = let k = lower_place d p q in set A k (add binary64 (get_or A k nan) v)
 
 -- ---- a change of the matrix A by what the weights w and the terms ts say
 

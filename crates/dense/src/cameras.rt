@@ -9,8 +9,8 @@ ghost use Rattle.dense.specs.Rows.{dense_row};
 ghost use Rattle.dense.specs.Dense.{right_of, row_vector, camera_vector};
 ghost use Rattle.dense.specs.inner.Held.{RowWithin, DenseRoom, put_row, cameras_of, RightSolved, DenseSolved};
 
-use crate::rows::{DenseRow, Row, dense_row};
-use cholesky::{Solve, substitute};
+use crate::rows::{DenseRow, dense_row};
+use cholesky::{Breakdown, substitute};
 use field::{Vec3, get3, put3, zero};
 use network::Shape;
 use system::get_term;
@@ -25,11 +25,11 @@ fn vector_place(d: usize, at: usize, p: DenseRow) -> usize
 }
 
 // A row's vector v into the right side of d rows that stands from `at` on.
-fn put_row(work: &mut [f64], d: usize, at: usize, row: Row, v: Vec3)
+fn put_row(work: &mut [f64], d: usize, at: usize, row: Option<DenseRow>, v: Vec3)
     requires { (at + 3 * d ≤ length work.old) × RowWithin d row }
     ensures { work.new ≡ put_row at row v work.old }
 {
-    let Row::Dense(p) = row else {
+    let Some(p) = row else {
         return;
     };
     let k = vector_place(d, at, p);
@@ -58,16 +58,13 @@ fn fill_right(s: Shape, anchor: usize, d: usize, work: &mut [f64])
     ensures { work.new ≡ store vector work.old (dense_right_at s d)
         (field d (right_of anchor (load term work.old 0 s.cameras))) }
 {
-    let n = s.cameras;
-    let mut c = 0usize;
-    while c < n {
+    for c in 0..s.cameras {
         put_right(s, anchor, d, work, c);
-        c += 1;
     }
 }
 
 // The solution of d rows in the right side's place, by the factor that stands before it.
-fn solve_right(s: Shape, d: usize, work: &mut [f64]) -> Solve
+fn solve_right(s: Shape, d: usize, work: &mut [f64]) -> Result<(), Breakdown>
     requires shape_sound { ShapeSound s }
     requires dense_room { DenseRoom s d (length work.old) }
     ensures { RightSolved s d work.old work.new result }
@@ -78,11 +75,11 @@ fn solve_right(s: Shape, d: usize, work: &mut [f64]) -> Solve
 }
 
 // A row's vector of the solution of d rows that stands from `at` on, and zero at the anchor.
-fn row_vector(work: &[f64], d: usize, at: usize, row: Row) -> Vec3
+fn row_vector(work: &[f64], d: usize, at: usize, row: Option<DenseRow>) -> Vec3
     requires { (at + 3 * d ≤ length work.now) × RowWithin d row }
     ensures { result ≡ row_vector (load vector work.now at d) row }
 {
-    let Row::Dense(p) = row else {
+    let Some(p) = row else {
         return zero();
     };
     let k = vector_place(d, at, p);
@@ -111,16 +108,18 @@ fn spread(s: Shape, anchor: usize, d: usize, work: &mut [f64])
     ensures { work.new ≡ store vector work.old (positions_at s)
         (field s.cameras (camera_vector anchor (load vector work.old (dense_right_at s d) d))) }
 {
-    let n = s.cameras;
-    let mut c = 0usize;
-    while c < n {
+    for c in 0..s.cameras {
         put_camera(s, anchor, d, work, c);
-        c += 1;
     }
 }
 
 // The cameras, by the factor that stands in the matrix's place and the terms.
-pub(crate) fn place_cameras(s: Shape, anchor: usize, d: usize, work: &mut [f64]) -> Solve
+pub(crate) fn place_cameras(
+    s: Shape,
+    anchor: usize,
+    d: usize,
+    work: &mut [f64],
+) -> Result<(), Breakdown>
     requires shape_sound { ShapeSound s }
     requires dense_room { DenseRoom s d (length work.old) }
     requires anchor_lt_cameras { anchor < s.cameras }
@@ -128,10 +127,7 @@ pub(crate) fn place_cameras(s: Shape, anchor: usize, d: usize, work: &mut [f64])
         (part work.old (matrix_at s) (d * d))) work.old work.new result }
 {
     fill_right(s, anchor, d, work);
-    let step = solve_right(s, d, work);
-    let Solve::Done = step else {
-        return step;
-    };
+    solve_right(s, d, work)?;
     spread(s, anchor, d, work);
-    Solve::Done
+    Ok(())
 }

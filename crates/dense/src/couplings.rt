@@ -1,14 +1,13 @@
 // The couplings of the reduced camera matrix, from the rows: point by point, then direction by direction.
 ghost use Rattle.std.specs.Prelude.{◌≡◌, ◌+◌, ◌<◌, ◌≤◌, length};
-ghost use Rattle.network.specs.Network.{links};
-ghost use Rattle.network.specs.inner.Sound.{ShapeSound, EndsSound, ListedSound, LinksSound};
+ghost use Rattle.network.specs.inner.Sound.{ShapeSound, LinksSound};
 ghost use Rattle.system.specs.Work.{matrix_at};
 ghost use Rattle.system.specs.inner.Formed.{weights_in};
 ghost use Rattle.dense.specs.Matrix.{shared as shared_of, times, pair_step, with_step, place_step, point_step, direction_step, couplings};
 ghost use Rattle.dense.specs.inner.Held.{DenseRoom, matrix_changed};
 
 use crate::matrix::couple_cameras;
-use network::links::{camera_of, listed_at, span_of, target_of};
+use network::links::{Ends, Links};
 use network::{Shape, Span};
 use system::reads::{point_weight, row_weight};
 
@@ -23,8 +22,7 @@ fn shared(s: Shape, work: &[f64], w: f64, r: usize, q: usize) -> f64
 
 // What the bearings r and q of a point of weight w add.
 fn couple_pair(
-    s: Shape,
-    ends: &[usize],
+    ends: &Ends<'_>,
     anchor: usize,
     d: usize,
     work: &mut [f64],
@@ -32,22 +30,20 @@ fn couple_pair(
     r: usize,
     q: usize,
 )
-    requires ends_sound { EndsSound s ends.now }
-    requires dense_room { DenseRoom s d (length work.old) }
-    requires anchor_lt_cameras { (anchor < s.cameras) × (r < s.bearings) × (q < s.bearings) }
-    ensures { work.new ≡ matrix_changed s d (pair_step anchor d ends.now w r q) work.old }
+    requires dense_room { DenseRoom ends.now.shape d (length work.old) }
+    requires anchor_lt_cameras { (anchor < ends.now.shape.cameras) × (r < ends.now.shape.bearings) × (q < ends.now.shape.bearings) }
+    ensures { work.new ≡ matrix_changed ends.now.shape d (pair_step anchor d ends.now.ends w r q) work.old }
 {
-    let i = camera_of(s, ends, r);
-    let j = camera_of(s, ends, q);
+    let s = ends.shape();
+    let i = ends.camera(r);
+    let j = ends.camera(q);
     let v = shared(s, work, w, r, q);
     couple_cameras(s, anchor, d, work, i, j, v);
 }
 
 // Bearing r with each at the places k of the lists.
 fn couple_with(
-    s: Shape,
-    ends: &[usize],
-    listed: &[usize],
+    links: &Links<'_>,
     anchor: usize,
     d: usize,
     work: &mut [f64],
@@ -55,151 +51,99 @@ fn couple_with(
     r: usize,
     k: Span,
 )
-    requires ends_sound { EndsSound s ends.now }
-    requires listed_sound { ListedSound s.bearings listed.now }
-    requires dense_room { DenseRoom s d (length work.old) }
-    requires anchor_lt_cameras { (anchor < s.cameras) × (r < s.bearings) × (k.first + k.size ≤ s.bearings) }
-    ensures { work.new ≡ matrix_changed s d
-        (times (with_step anchor d ends.now listed.now w r k) k.size) work.old }
+    requires links_sound { LinksSound links.now }
+    requires dense_room { DenseRoom links.now.shape d (length work.old) }
+    requires anchor_lt_cameras { (anchor < links.now.shape.cameras) × (r < links.now.shape.bearings) × (k.first + k.size ≤ links.now.shape.bearings) }
+    ensures { work.new ≡ matrix_changed links.now.shape d
+        (times (with_step anchor d links.now.ends links.now.listed w r k) k.size) work.old }
 {
-    let first = k.first;
-    let size = k.size;
-    let mut j = 0usize;
-    while j < size {
-        let q = listed_at(s, listed, first + j);
-        couple_pair(s, ends, anchor, d, work, w, r, q);
-        j += 1;
+    let e = links.ends();
+    for j in 0..k.size {
+        let q = links.listed(k.first + j);
+        couple_pair(e, anchor, d, work, w, r, q);
     }
 }
 
 // A point of weight w whose list has the places k, pair by pair in list order: each bearing with those after it.
-fn couple_places(
-    s: Shape,
-    ends: &[usize],
-    listed: &[usize],
-    anchor: usize,
-    d: usize,
-    work: &mut [f64],
-    w: f64,
-    k: Span,
-)
-    requires ends_sound { EndsSound s ends.now }
-    requires listed_sound { ListedSound s.bearings listed.now }
-    requires dense_room { DenseRoom s d (length work.old) }
-    requires anchor_lt_cameras { (anchor < s.cameras) × (k.first + k.size ≤ s.bearings) }
-    ensures { work.new ≡ matrix_changed s d
-        (times (place_step anchor d ends.now listed.now w k) k.size) work.old }
+fn couple_places(links: &Links<'_>, anchor: usize, d: usize, work: &mut [f64], w: f64, k: Span)
+    requires links_sound { LinksSound links.now }
+    requires dense_room { DenseRoom links.now.shape d (length work.old) }
+    requires anchor_lt_cameras { (anchor < links.now.shape.cameras) × (k.first + k.size ≤ links.now.shape.bearings) }
+    ensures { work.new ≡ matrix_changed links.now.shape d
+        (times (place_step anchor d links.now.ends links.now.listed w k) k.size) work.old }
 {
-    let first = k.first;
-    let size = k.size;
-    let mut i = 0usize;
-    while i < size {
-        let place = first + i;
-        let r = listed_at(s, listed, place);
+    for i in 0..k.size {
+        let place = k.first + i;
+        let r = links.listed(place);
         let after = Span {
             first: place + 1,
-            size: size - (i + 1),
+            size: k.size - (i + 1),
         };
-        couple_with(s, ends, listed, anchor, d, work, w, r, after);
-        i += 1;
+        couple_with(links, anchor, d, work, w, r, after);
     }
 }
 
 // Point p, skipped where its weight is below 1e-12.
-fn couple_point(
-    s: Shape,
-    ends: &[usize],
-    offsets: &[usize],
-    listed: &[usize],
-    anchor: usize,
-    d: usize,
-    work: &mut [f64],
-    p: usize,
-)
-    requires links_sound { LinksSound (links s ends.now offsets.now listed.now) }
-    requires dense_room { DenseRoom s d (length work.old) }
-    requires anchor_lt_cameras { (anchor < s.cameras) × (p < s.points) }
-    ensures { work.new ≡ matrix_changed s d
-        (point_step anchor d (links s ends.now offsets.now listed.now) p) work.old }
+fn couple_point(links: &Links<'_>, anchor: usize, d: usize, work: &mut [f64], p: usize)
+    requires links_sound { LinksSound links.now }
+    requires dense_room { DenseRoom links.now.shape d (length work.old) }
+    requires anchor_lt_cameras { (anchor < links.now.shape.cameras) × (p < links.now.shape.points) }
+    ensures { work.new ≡ matrix_changed links.now.shape d (point_step anchor d links.now p) work.old }
 {
-    let w = point_weight(s, work, p);
+    let w = point_weight(links.shape(), work, p);
     if w < 1e-12 {
         return;
     }
-    let k = span_of(s, offsets, p);
-    couple_places(s, ends, listed, anchor, d, work, w, k);
+    let k = links.span(p);
+    couple_places(links, anchor, d, work, w, k);
 }
 
-fn couple_points(
-    s: Shape,
-    ends: &[usize],
-    offsets: &[usize],
-    listed: &[usize],
-    anchor: usize,
-    d: usize,
-    work: &mut [f64],
-)
-    requires links_sound { LinksSound (links s ends.now offsets.now listed.now) }
-    requires dense_room { DenseRoom s d (length work.old) }
-    requires anchor_lt_cameras { anchor < s.cameras }
-    ensures { work.new ≡ matrix_changed s d
-        (times (point_step anchor d (links s ends.now offsets.now listed.now)) s.points)
-        work.old }
+fn couple_points(links: &Links<'_>, anchor: usize, d: usize, work: &mut [f64])
+    requires links_sound { LinksSound links.now }
+    requires dense_room { DenseRoom links.now.shape d (length work.old) }
+    requires anchor_lt_cameras { anchor < links.now.shape.cameras }
+    ensures { work.new ≡ matrix_changed links.now.shape d
+        (times (point_step anchor d links.now) links.now.shape.points) work.old }
 {
-    let m = s.points;
-    let mut p = 0usize;
-    while p < m {
-        couple_point(s, ends, offsets, listed, anchor, d, work, p);
-        p += 1;
+    for p in 0..links.shape().points {
+        couple_point(links, anchor, d, work, p);
     }
 }
 
 // What direction k adds: -e.
-fn couple_direction(s: Shape, ends: &[usize], anchor: usize, d: usize, work: &mut [f64], k: usize)
-    requires ends_sound { EndsSound s ends.now }
-    requires dense_room { DenseRoom s d (length work.old) }
-    requires anchor_lt_cameras { (anchor < s.cameras) × (k < s.directions) }
-    ensures { work.new ≡ matrix_changed s d
-        (direction_step anchor d s.bearings ends.now k) work.old }
+fn couple_direction(ends: &Ends<'_>, anchor: usize, d: usize, work: &mut [f64], k: usize)
+    requires dense_room { DenseRoom ends.now.shape d (length work.old) }
+    requires anchor_lt_cameras { (anchor < ends.now.shape.cameras) × (k < ends.now.shape.directions) }
+    ensures { work.new ≡ matrix_changed ends.now.shape d
+        (direction_step anchor d ends.now.shape.bearings ends.now.ends k) work.old }
 {
+    let s = ends.shape();
     let r = s.bearings + k;
-    let i = camera_of(s, ends, r);
-    let j = target_of(s, ends, r);
+    let i = ends.camera(r);
+    let j = ends.target(r);
     let v = -row_weight(s, work, r);
     couple_cameras(s, anchor, d, work, i, j, v);
 }
 
-fn couple_directions(s: Shape, ends: &[usize], anchor: usize, d: usize, work: &mut [f64])
-    requires ends_sound { EndsSound s ends.now }
-    requires dense_room { DenseRoom s d (length work.old) }
-    requires anchor_lt_cameras { anchor < s.cameras }
-    ensures { work.new ≡ matrix_changed s d
-        (times (direction_step anchor d s.bearings ends.now) s.directions) work.old }
+fn couple_directions(ends: &Ends<'_>, anchor: usize, d: usize, work: &mut [f64])
+    requires dense_room { DenseRoom ends.now.shape d (length work.old) }
+    requires anchor_lt_cameras { anchor < ends.now.shape.cameras }
+    ensures { work.new ≡ matrix_changed ends.now.shape d
+        (times (direction_step anchor d ends.now.shape.bearings ends.now.ends) ends.now.shape.directions)
+        work.old }
 {
-    let e = s.directions;
-    let mut k = 0usize;
-    while k < e {
-        couple_direction(s, ends, anchor, d, work, k);
-        k += 1;
+    for k in 0..ends.shape().directions {
+        couple_direction(ends, anchor, d, work, k);
     }
 }
 
 // All couplings.
-pub(crate) fn couple_rows(
-    s: Shape,
-    ends: &[usize],
-    offsets: &[usize],
-    listed: &[usize],
-    anchor: usize,
-    d: usize,
-    work: &mut [f64],
-)
-    requires links_sound { LinksSound (links s ends.now offsets.now listed.now) }
-    requires dense_room { DenseRoom s d (length work.old) }
-    requires anchor_lt_cameras { anchor < s.cameras }
-    ensures { work.new ≡ matrix_changed s d
-        (couplings anchor d (links s ends.now offsets.now listed.now)) work.old }
+pub(crate) fn couple_rows(links: &Links<'_>, anchor: usize, d: usize, work: &mut [f64])
+    requires links_sound { LinksSound links.now }
+    requires dense_room { DenseRoom links.now.shape d (length work.old) }
+    requires anchor_lt_cameras { anchor < links.now.shape.cameras }
+    ensures { work.new ≡ matrix_changed links.now.shape d (couplings anchor d links.now) work.old }
 {
-    couple_points(s, ends, offsets, listed, anchor, d, work);
-    couple_directions(s, ends, anchor, d, work);
+    couple_points(links, anchor, d, work);
+    couple_directions(links.ends(), anchor, d, work);
 }

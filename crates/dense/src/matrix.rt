@@ -7,7 +7,7 @@ ghost use Rattle.system.specs.Work.{matrix_at};
 ghost use Rattle.dense.specs.Matrix.{lower_place, set_diagonal, couple as coupled, times, diagonal_step, couple_cameras};
 ghost use Rattle.dense.specs.inner.Held.{RowWithin, DenseRoom, matrix_changed};
 
-use crate::rows::{DenseRow, Row, dense_row};
+use crate::rows::{DenseRow, dense_row};
 use field::clear;
 use network::Shape;
 use system::get_term;
@@ -36,11 +36,11 @@ fn lower_place(d: usize, p: DenseRow, q: DenseRow) -> usize
 }
 
 // A row's diagonal v with the ridge.
-fn set_diagonal(a: &mut [f64], d: usize, row: Row, v: f64)
+fn set_diagonal(a: &mut [f64], d: usize, row: Option<DenseRow>, v: f64)
     requires { (length a.old ≡ d * d) × RowWithin d row }
     ensures { a.new ≡ set_diagonal d row v a.old }
 {
-    let Row::Dense(p) = row else {
+    let Some(p) = row else {
         return;
     };
     let k = lower_place(d, p, p);
@@ -48,14 +48,14 @@ fn set_diagonal(a: &mut [f64], d: usize, row: Row, v: f64)
 }
 
 // v added to the entry of two rows, in the lower triangle.
-fn couple(a: &mut [f64], d: usize, left: Row, right: Row, v: f64)
+fn couple(a: &mut [f64], d: usize, left: Option<DenseRow>, right: Option<DenseRow>, v: f64)
     requires { (length a.old ≡ d * d) × RowWithin d left × RowWithin d right }
     ensures { a.new ≡ coupled d left right v a.old }
 {
-    let Row::Dense(p) = left else {
+    let Some(p) = left else {
         return;
     };
-    let Row::Dense(q) = right else {
+    let Some(q) = right else {
         return;
     };
     let k = lower_place(d, p, q);
@@ -107,11 +107,8 @@ pub(crate) fn set_diagonals(s: Shape, anchor: usize, d: usize, work: &mut [f64])
     requires anchor_lt_cameras { anchor < s.cameras }
     ensures { work.new ≡ matrix_changed s d (times (diagonal_step anchor d) s.cameras) work.old }
 {
-    let n = s.cameras;
-    let mut c = 0usize;
-    while c < n {
+    for c in 0..s.cameras {
         camera_diagonal(s, anchor, d, work, c);
-        c += 1;
     }
 }
 
@@ -123,5 +120,5 @@ pub(crate) fn clear_matrix(s: Shape, d: usize, work: &mut [f64])
 {
     let at = matrix_at(s);
     let end = dense_right_at(s, d);
-    clear(&mut work[at..end], d * d);
+    clear(&mut work[at..end], d * d, 0.0);
 }

@@ -7,13 +7,6 @@ ghost use Rattle.dense.specs.Rows.{dense_row};
 #[derive(Clone, Copy)]
 pub struct DenseRow(usize);
 
-// The row of a camera: the anchor has none.
-#[derive(Clone, Copy)]
-pub enum Row {
-    Anchor,
-    Dense(DenseRow),
-}
-
 impl DenseRow {
     pub(crate) fn index(self) -> usize
         ensures { result ≡ self.0 }
@@ -22,14 +15,15 @@ impl DenseRow {
     }
 }
 
-pub(crate) fn dense_row(camera: usize, anchor: usize) -> Row
+// The row of a camera: the anchor has none.
+pub(crate) fn dense_row(camera: usize, anchor: usize) -> Option<DenseRow>
     ensures { result ≡ dense_row camera anchor }
 {
     if camera == anchor {
-        return Row::Anchor;
+        return None;
     }
     if camera < anchor {
-        return Row::Dense(DenseRow(camera));
+        return Some(DenseRow(camera));
     }
-    Row::Dense(DenseRow(camera - 1))
+    Some(DenseRow(camera - 1))
 }

@@ -1,5 +1,5 @@
 -- What a conjunction that holds, and a disjunction that does not, say of their parts. Assumes nothing.
-use mathlib.Core.Path.{◌≡◌, refl, ap₂, ◌∙◌}
+use mathlib.Core.Path.{◌≡◌, refl}
 use mathlib.Core.Bool.{Bool, true, false, ◌&&◌, ◌||◌, true≢false, false≢true}
 
 pub both_true : (a b : Bool) → (a && b) ≡ true → (a ≡ true) × (b ≡ true)
@@ -9,10 +9,3 @@ both_true false b e = absurd (false≢true e)
 pub neither : (a b : Bool) → (a || b) ≡ false → (a ≡ false) × (b ≡ false)
 neither true b e = absurd (true≢false e)
 neither false b e = (refl, e)
-
--- a conjunction or a disjunction of what is known of its parts
-pub and_is : {r a b c d : Bool} → r ≡ (a && b) → a ≡ c → b ≡ d → r ≡ (c && d)
-and_is e h k = e ∙ ap₂ ◌&&◌ h k
-
-pub or_is : {r a b c d : Bool} → r ≡ (a || b) → a ≡ c → b ≡ d → r ≡ (c || d)
-or_is e h k = e ∙ ap₂ ◌||◌ h k

@@ -1,4 +1,5 @@
 -- Every row of the table holds: by computing, or by what the crates below computed. Assumes nothing.
+use Rattle.std.proofs.Common.{Ok}
 use mathlib.Core.Path.{◌≡◌, refl, ap, ◌∙◌}
 use mathlib.Core.List.{[], ◌∷◌}
 use lib.Ieee.{Float, to_bits}
@@ -16,7 +17,6 @@ use Rattle.recover.proofs.Edges.{scale-edges, point-seen, point-unseen, point-fa
 use Rattle.iterative.proofs.Examples.{computing, most-rounds}
 use Rattle.dense.proofs.Edges.{pair-stops, triple-stops}
 use Rattle.placement.specs.Routes.{Placement, placed, report, submission, by_dense, routed_by, routed, buffers_fit, submission_tests, placement}
-use Rattle.placement.specs.declared.Answer.TheVariants.{Accepted}
 use Rattle.placement.specs.Solved.{answer_of, cameras_after, points_after}
 use Rattle.edges.specs.Edges.{Edges, Solves}
 
@@ -31,7 +31,7 @@ solves : (w s x y z : Float) → placement (submission (single w s) 1 3 48 29 3 
     points_of (single w s) (origin ∷ []) ≡ record { x = x; y = y; z = z } ∷ [] → Solves w s x y z
 unfolding flat
 solves w s x y z e f q = record {
-  answer = ap (answer_of (single w s)) e ∙ ap Accepted f;
+  answer = ap (answer_of (single w s)) e ∙ ap Ok f;
   camera = λ old. ap (λ (p : Placement). cameras_after p old) e;
   point = λ old. ap (λ (p : Placement). points_after (single w s) p old) e ∙ ap (flat vector) q;
 }

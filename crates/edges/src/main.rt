@@ -4,7 +4,8 @@
 #![tactic(auto)]
 
 use io::{print_hex, write_all};
-use network::Shape;
+use network::{Refusal, Shape};
+use placement::Report;
 
 fn shape(n: usize, m: usize, b: usize, e: usize) -> Shape {
     Shape {
@@ -42,9 +43,9 @@ fn two_parts() {
         &[1.0, 0.0],
         &mut nodes,
     ) {
-        graph::Connectivity::Refused(_) => write_all(1, b"refused"),
-        graph::Connectivity::Connected => write_all(1, b"connected"),
-        graph::Connectivity::Disconnected => write_all(1, b"not connected"),
+        Err(_) => write_all(1, b"refused"),
+        Ok(true) => write_all(1, b"connected"),
+        Ok(false) => write_all(1, b"not connected"),
     };
     match graph::parts(
         shape(3, 0, 0, 2),
@@ -53,12 +54,12 @@ fn two_parts() {
         &mut nodes,
         &mut labels,
     ) {
-        graph::Listing::Refused(_) => write_all(1, b", refused"),
-        graph::Listing::Parts(_) => write_all(1, b", labels"),
+        Err(_) => write_all(1, b", refused"),
+        Ok(_) => write_all(1, b", labels"),
     };
-    number(labels[0]);
-    number(labels[1]);
-    number(labels[2]);
+    for label in &labels {
+        number(*label);
+    }
     write_all(1, b"\n");
 }
 
@@ -83,8 +84,8 @@ fn scale(name: &[u8], x: f64) {
         false,
         &mut out,
     ) {
-        network::Verdict::Refused(_) => write_all(1, b"refused"),
-        network::Verdict::Passed => print_hex(1, double::to_bits(out[0]), 16),
+        Err(_) => write_all(1, b"refused"),
+        Ok(_) => print_hex(1, double::to_bits(out[0]), 16),
     };
     write_all(1, b"\n");
 }
@@ -96,16 +97,16 @@ fn scales() {
     scale(b"2^-19", 0.0000019073486328125);
 }
 
-fn answer(name: &[u8], given: placement::Answer) {
+fn answer(name: &[u8], given: Result<Report, Refusal>) {
     write_all(1, name);
     match given {
-        placement::Answer::Refused(r) => {
+        Err(r) => {
             write_all(1, b": refused");
-            number(r.number);
+            number(r.cause.number());
             write_all(1, b" place");
             number(r.place);
         }
-        placement::Answer::Accepted(p) => {
+        Ok(p) => {
             write_all(1, b": anchor");
             number(p.anchor);
             write_all(1, b" route");
@@ -119,14 +120,12 @@ fn answer(name: &[u8], given: placement::Answer) {
     write_all(1, b"\n");
 }
 
-fn position(name: &[u8], x: f64, y: f64, z: f64) {
+fn position(name: &[u8], numbers: &[f64; 3]) {
     write_all(1, name);
-    write_all(1, b" ");
-    print_hex(1, double::to_bits(x), 16);
-    write_all(1, b" ");
-    print_hex(1, double::to_bits(y), 16);
-    write_all(1, b" ");
-    print_hex(1, double::to_bits(z), 16);
+    for x in numbers {
+        write_all(1, b" ");
+        print_hex(1, double::to_bits(*x), 16);
+    }
     write_all(1, b"\n");
 }
 
@@ -152,8 +151,8 @@ fn one_camera(name: &[u8], weight: f64, scale: f64) {
         &mut placed,
     );
     answer(name, given);
-    position(b"c 0", cameras[0], cameras[1], cameras[2]);
-    position(b"p 0", placed[0], placed[1], placed[2]);
+    position(b"c 0", &cameras);
+    position(b"p 0", &placed);
 }
 
 // n=2, one direction, weight 1e300, scale 1e10. Limit 1.

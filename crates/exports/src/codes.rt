@@ -1,181 +1,75 @@
 // How an answer goes to C (specs/Codes).
-ghost use Rattle.std.specs.Prelude.{◌≡◌, [], ◌∷◌, length};
-ghost use Rattle.exports.specs.Codes.{connectivity_code, connectivity_report, listing_code, listing_report, length_code, length_report};
-ghost use Rattle.exports.specs.Codes.{verdict_code, verdict_report, answer_code, answer_report, counted_code, counted_report};
-ghost use Rattle.exports.specs.Codes.{written_code, written_report, Unreported};
+ghost use Rattle.std.specs.Prelude.{◌≡◌, ◌<◌, [], ◌∷◌, length};
+ghost use Rattle.exports.specs.Codes.{code_of, report_of, yes_or_no, one, solved, counted, Unreported};
 
-use graph::{Connectivity, Listing};
-use image::{Counted, Written};
-use network::Verdict;
-use placement::Answer;
-use system::work::Length;
+use network::{Cause, Refusal, Shape};
+use placement::Report;
 
-// x in a report of one number.
-pub(crate) fn put(report: &mut [usize], x: usize)
-    requires { length report.old ≡ 1 }
-    ensures { report.new ≡ x ∷ [] }
+// What an accepted call tells: 1 or 0; a number; nothing; a solve's anchor, route, rounds and few; an image's n, m, B and E.
+
+pub(crate) fn yes_or_no(yes: bool) -> [usize; 1]
+    ensures { result ≡ yes_or_no yes }
 {
-    report[0] = x;
+    if yes { [1] } else { [0] }
+}
+
+pub(crate) fn one(number: usize) -> [usize; 1]
+    ensures { result ≡ one number }
+{
+    [number]
+}
+
+pub(crate) fn nothing(_: ()) -> [usize; 1]
+    ensures { result ≡ 0 ∷ [] }
+{
+    [0]
+}
+
+pub(crate) fn solved(p: Report) -> [usize; 4]
+    ensures { result ≡ solved p }
+{
+    [p.anchor, p.route, p.rounds, p.few]
+}
+
+pub(crate) fn counted(s: Shape) -> [usize; 4]
+    ensures { result ≡ counted s }
+{
+    [s.cameras, s.points, s.bearings, s.directions]
+}
+
+// Stores N numbers that an accepted call tells, or the place of a refusal as the first number. The code is 0, or the refusal's number.
+pub(crate) fn finish<const N: usize>(
+    report: &mut [usize],
+    answer: Result<[usize; N], Refusal>,
+) -> usize
+    requires { (0 < N) × (length report.old ≡ N) }
+    ensures coded { result ≡ code_of answer.entry }
+    ensures reported { report.new ≡ report_of (λ told. told) answer.entry report.old }
+{
+    match answer {
+        Ok(told) => {
+            report.copy_from_slice(&told);
+            0
+        }
+        Err(r) => {
+            report[0] = r.place;
+            r.cause.number()
+        }
+    }
 }
 
 // The code where the report has not its length, by the verdict of the tests before 3: their refusal, its place as the first number of a report
 // that has one; else 3, and the report is left.
-pub(crate) fn unreported(report: &mut [usize], earlier: Verdict) -> usize
+pub(crate) fn unreported(report: &mut [usize], earlier: Result<(), Refusal>) -> usize
     ensures { Unreported earlier result report.old report.new }
 {
     match earlier {
-        Verdict::Refused(first) => {
+        Err(first) => {
             if 0 < report.len() {
                 report[0] = first.place;
             }
-            first.number
+            first.cause.number()
         }
-        Verdict::Passed => 3,
-    }
-}
-
-pub(crate) fn connectivity_code(a: Connectivity) -> usize
-    ensures { result ≡ connectivity_code a }
-{
-    match a {
-        Connectivity::Refused(r) => r.number,
-        Connectivity::Connected => 0,
-        Connectivity::Disconnected => 0,
-    }
-}
-
-pub(crate) fn connectivity_report(a: Connectivity) -> usize
-    ensures { result ≡ connectivity_report a }
-{
-    match a {
-        Connectivity::Refused(r) => r.place,
-        Connectivity::Connected => 1,
-        Connectivity::Disconnected => 0,
-    }
-}
-
-pub(crate) fn listing_code(a: Listing) -> usize
-    ensures { result ≡ listing_code a }
-{
-    match a {
-        Listing::Refused(r) => r.number,
-        Listing::Parts(_) => 0,
-    }
-}
-
-pub(crate) fn listing_report(a: Listing) -> usize
-    ensures { result ≡ listing_report a }
-{
-    match a {
-        Listing::Refused(r) => r.place,
-        Listing::Parts(k) => k,
-    }
-}
-
-pub(crate) fn length_code(a: Length) -> usize
-    ensures { result ≡ length_code a }
-{
-    match a {
-        Length::Refused(r) => r.number,
-        Length::Of(_) => 0,
-    }
-}
-
-pub(crate) fn length_report(a: Length) -> usize
-    ensures { result ≡ length_report a }
-{
-    match a {
-        Length::Refused(r) => r.place,
-        Length::Of(t) => t,
-    }
-}
-
-pub(crate) fn verdict_code(a: Verdict) -> usize
-    ensures { result ≡ verdict_code a }
-{
-    match a {
-        Verdict::Refused(r) => r.number,
-        Verdict::Passed => 0,
-    }
-}
-
-pub(crate) fn verdict_report(a: Verdict) -> usize
-    ensures { result ≡ verdict_report a }
-{
-    match a {
-        Verdict::Refused(r) => r.place,
-        Verdict::Passed => 0,
-    }
-}
-
-pub(crate) fn written_code(a: Written) -> usize
-    ensures { result ≡ written_code a }
-{
-    match a {
-        Written::Refused(r) => r.number,
-        Written::Bytes(_) => 0,
-    }
-}
-
-pub(crate) fn written_report(a: Written) -> usize
-    ensures { result ≡ written_report a }
-{
-    match a {
-        Written::Refused(r) => r.place,
-        Written::Bytes(k) => k,
-    }
-}
-
-pub(crate) fn answer_code(a: Answer) -> usize
-    ensures { result ≡ answer_code a }
-{
-    match a {
-        Answer::Refused(r) => r.number,
-        Answer::Accepted(_) => 0,
-    }
-}
-
-// The place of a refusal, or anchor, route, rounds and few, in a report of four numbers.
-pub(crate) fn put_answer(report: &mut [usize], a: Answer)
-    requires { length report.old ≡ 4 }
-    ensures { report.new ≡ answer_report a report.old }
-{
-    match a {
-        Answer::Refused(r) => {
-            report[0] = r.place;
-        }
-        Answer::Accepted(p) => {
-            report[0] = p.anchor;
-            report[1] = p.route;
-            report[2] = p.rounds;
-            report[3] = p.few;
-        }
-    }
-}
-
-pub(crate) fn counted_code(a: Counted) -> usize
-    ensures { result ≡ counted_code a }
-{
-    match a {
-        Counted::Refused(r) => r.number,
-        Counted::Of(_) => 0,
-    }
-}
-
-// The place of a refusal, or n, m, B, E, in a report of four numbers.
-pub(crate) fn put_counted(report: &mut [usize], a: Counted)
-    requires { length report.old ≡ 4 }
-    ensures { report.new ≡ counted_report a report.old }
-{
-    match a {
-        Counted::Refused(r) => {
-            report[0] = r.place;
-        }
-        Counted::Of(s) => {
-            report[0] = s.cameras;
-            report[1] = s.points;
-            report[2] = s.bearings;
-            report[3] = s.directions;
-        }
+        Ok(()) => Cause::Lengths.number(),
     }
 }

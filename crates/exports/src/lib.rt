@@ -15,12 +15,8 @@ ghost use Rattle.image.specs.Calls.{lists as lists_of};
 ghost use Rattle.exports.specs.Calls.{ConnectedCall, PartsCall, LengthCall, DotsCall, ScalesCall, SolveCall};
 ghost use Rattle.exports.specs.Calls.{CountsCall, ReadCall, WriteCall, ListCall};
 
-use codes::{
-    answer_code, connectivity_code, connectivity_report, counted_code, length_code, length_report,
-    listing_code, listing_report, put, put_answer, put_counted, unreported, verdict_code,
-    verdict_report, written_code, written_report,
-};
-use network::{Shape, Verdict, check_counts};
+use codes::{counted, finish, nothing, one, solved, unreported, yes_or_no};
+use network::{Shape, check_counts};
 
 fn shape(n: usize, m: usize, b: usize, e: usize) -> Shape
     ensures { result ≡ shape_of n m b e }
@@ -61,8 +57,7 @@ pub extern "C" fn vobzeile_connected(
         return unreported(report, check_counts(s));
     }
     let answer = graph::is_connected(s, ends, weights, nodes);
-    put(report, connectivity_report(answer));
-    connectivity_code(answer)
+    finish(report, answer.map(yes_or_no))
 }
 
 // The parts listing: reports the number of parts.
@@ -86,8 +81,7 @@ pub extern "C" fn vobzeile_parts(
         return unreported(report, check_counts(s));
     }
     let answer = graph::parts(s, ends, weights, nodes, labels);
-    put(report, listing_report(answer));
-    listing_code(answer)
+    finish(report, answer.map(one))
 }
 
 // Reports the doubles that the work buffer of a solve needs.
@@ -108,8 +102,7 @@ pub extern "C" fn vobzeile_work_length(
         return unreported(report, check_counts(s));
     }
     let answer = system::work::work_length(s, route, limit);
-    put(report, length_report(answer));
-    length_code(answer)
+    finish(report, answer.map(one))
 }
 
 // The dot of each row with its baseline, bearings first: reports 0. The cameras are those of `trial` where the mark is not 0, else of `current`.
@@ -158,8 +151,7 @@ pub extern "C" fn vobzeile_dots<'a>(
         mark != 0,
         out,
     );
-    put(report, verdict_report(answer));
-    verdict_code(answer)
+    finish(report, answer.map(nothing))
 }
 
 // The scale of each row, kept or renewed, bearings first: reports 0. The cameras are those of `trial` where the mark is not 0, else of `current`.
@@ -208,8 +200,7 @@ pub extern "C" fn vobzeile_scales<'a>(
         mark != 0,
         out,
     );
-    put(report, verdict_report(answer));
-    verdict_code(answer)
+    finish(report, answer.map(nothing))
 }
 
 // The solve: reports anchor, route, rounds and few.
@@ -249,8 +240,7 @@ pub extern "C" fn vobzeile_solve(
         s, ends, rays, weights, scales, points, offsets, listed, marks, route, limit, work,
         cameras, placed,
     );
-    put_answer(report, answer);
-    answer_code(answer)
+    finish(report, answer.map(solved))
 }
 
 // The counts of an image: reports n, m, B, E.
@@ -262,8 +252,7 @@ pub extern "C" fn vobzeile_counts(bytes: &[u8], report: &mut [usize]) -> usize
         return unreported(report, image::check_counted(bytes));
     }
     let answer = image::counts(bytes);
-    put_counted(report, answer);
-    counted_code(answer)
+    finish(report, answer.map(counted))
 }
 
 // Reads an image into slices that its counts fit: reports n, m, B, E.
@@ -286,8 +275,7 @@ pub extern "C" fn vobzeile_read(
         return unreported(report, image::check_counted(bytes));
     }
     let answer = image::read(bytes, ends, rays, weights, scales, points);
-    put_counted(report, answer);
-    counted_code(answer)
+    finish(report, answer.map(counted))
 }
 
 // Writes the image of a network: reports the bytes written.
@@ -314,8 +302,7 @@ pub extern "C" fn vobzeile_write(
         return unreported(report, check_counts(s));
     }
     let answer = image::write(s, ends, rays, weights, scales, points, out);
-    put(report, written_report(answer));
-    written_code(answer)
+    finish(report, answer.map(one))
 }
 
 // The point lists of a network's rows: reports 0.
@@ -332,9 +319,8 @@ pub extern "C" fn vobzeile_list_points(
         report.old report.new }
 {
     if report.len() != 1 {
-        return unreported(report, Verdict::Passed);
+        return unreported(report, Ok(()));
     }
     let answer = lists::list_points(m, b, ends, offsets, listed);
-    put(report, verdict_report(answer));
-    verdict_code(answer)
+    finish(report, answer.map(nothing))
 }

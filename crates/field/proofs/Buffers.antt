@@ -10,7 +10,7 @@ use native.Mathlib.Numerals.{towards_suc}
 use native.Mathlib.Omega.{arith}
 use lib.ListN.{length, get_or, set, take, drop, replicate, length-set, length-append, length-drop, length-replicate, drop_of_length-le}
 use lib.Seq.{take-nil, take-take, drop-drop, length-take-le, set-set, set_comm, take-set-le, drop-set-lt, get_or-set_same, get_or-set_other, get_or-take, get_or-drop, ext_get_or, sets, drop-append-add}
-use lib.Seq.{drop-set-add, drop-append-le, take-append-le, take-length, take_at, drop_at}
+use lib.Seq.{take-add, drop-set-add, drop-append-le, take-append-le, take-length, take_at, drop_at}
 use lib.Ieee.{Float, nan}
 use Rattle.field.specs.declared.Vec3.{Vec3}
 use Rattle.field.specs.Count.{field}
@@ -338,6 +338,29 @@ module _ {A : Type 0} (K : Cell A) (W : Lawful K) where
       ∙ ap (λ (t : List Float). K.numbers b ++ t) (drop_at (K.numbers a) (flat K f) (length (K.numbers b)) e))
   write-flat (a ∷ f) (suc i) b h =
       rw (past a i) (write-past (K.numbers a) (flat K f) (K.width * i) (K.numbers b) ∙ ap (λ (t : List Float). K.numbers a ++ t) (write-flat f i b (omega arith)))
+
+  flat-got : (l : List Float) (q : ℕ) → q + K.width ≤ length l → flat K (get K l q ∷ []) ≡ part l q K.width
+  unfolding get
+  flat-got l q h = flat-one K (K.value (part l q K.width)) ∙ W.forth (part l q K.width) (length_part l q K.width h)
+
+  -- the numbers of what is loaded are those that it is loaded from
+  pub flat-load : (l : List Float) (p n : ℕ) → p + K.width * n ≤ length l → flat K (load K l p n) ≡ part l p (K.width * n)
+  unfolding load flat field
+  flat-load l p zero h = rw mul-zero
+  flat-load l p (suc n) h =
+      let w : K.width * suc n ≡ K.width * n + K.width = omega (arith, mul-suc K.width n) in
+      let d : drop (K.width * n) (drop p l) ≡ drop (p + K.width * n) l = drop-drop (K.width * n) p l in
+      rw load-suc
+      (flat_append K (load K l p n) (get K l (p + K.width * n) ∷ [])
+      ∙ rw (flat-load l p n (omega arith), w, take-add, d) (ap (λ (t : List Float). part l p (K.width * n) ++ t) (flat-got l (p + K.width * n) (omega arith))))
+
+  -- the n values from place p of l, stored from place q on: their numbers are copied
+  pub store-loaded : (m : List Float) (q : ℕ) (l : List Float) (p n : ℕ) → p + K.width * n ≤ length l → q + K.width * n ≤ length m →
+      store K m q (load K l p n) ≡ take q m ++ (part l p (K.width * n) ++ drop (K.width * n) (drop q m))
+  unfolding store
+  store-loaded m q l p n h k =
+      let e : length (part l p (K.width * n)) ≡ K.width * n = length_part l p (K.width * n) h in
+      rw (flat-load l p n h, drop-drop) (write-split m q (part l p (K.width * n)) (omega arith) ∙ rw e)
 
   -- ---- one value
 

@@ -1,4 +1,6 @@
 -- Laws of counting: of `upto`, `field` and `lowest`. Assumes nothing.
+use Rattle.std.proofs.Common.{None, Option, Some, MatchOption}
+use Rattle.std.proofs.lemmas.Bool.{cases_lt}
 use mathlib.Core.Path.{◌≡◌, refl, sym, ap, ap₂, subst, ◌∙◌}
 use mathlib.Core.Logic.{⊎_elim, dite}
 use mathlib.Core.List.{List, [], ◌∷◌, ◌++◌, append_assoc, append-nil}
@@ -9,9 +11,8 @@ use native.Mathlib.Decide.{ℕ_discrete}
 use native.Mathlib.Omega.{arith}
 use lib.ListN.{length, get_or, replicate, set, length-append, length-replicate, length-set, get_or-replicate, get_or-append}
 use lib.Seq.{get_or_at, get_or-set_same, get_or-set_other, ext_get_or}
-use Rattle.field.specs.declared.Place.{Place}
-use Rattle.field.specs.declared.Place.TheVariants.{At, Nowhere}
-use Rattle.field.specs.Count.{upto, field, lowest, or_else, shift}
+use Rattle.std.specs.Option.{option_or}
+use Rattle.field.specs.Count.{upto, field, lowest, shift}
 
 -- ---- upto
 
@@ -129,16 +130,16 @@ module _ {ℓ} {A : Type ℓ} where
 
 -- ---- lowest
 
-pub lowest-zero : (p : ℕ → Bool) → lowest p 0 ≡ Nowhere
+pub lowest-zero : (p : ℕ → Bool) → lowest p 0 ≡ None
 unfolding lowest
 lowest-zero p = refl
 
-pub lowest-more : (p : ℕ → Bool) (i : ℕ) → lowest p i ≡ Nowhere → p i ≡ false → lowest p (suc i) ≡ Nowhere
+pub lowest-more : (p : ℕ → Bool) (i : ℕ) → lowest p i ≡ None → p i ≡ false → lowest p (suc i) ≡ None
 unfolding lowest
 lowest-more p i e f = rw (e, f)
 
 -- what is found stays found
-pub lowest-stays : (p : ℕ → Bool) (k i n : ℕ) → lowest p k ≡ At i → k ≤ n → lowest p n ≡ At i
+pub lowest-stays : (p : ℕ → Bool) (k i n : ℕ) → lowest p k ≡ Some i → k ≤ n → lowest p n ≡ Some i
 unfolding lowest
 lowest-stays p k i zero e h = rw (let z : k ≡ 0 = omega arith in z) at e
 lowest-stays p k i (suc n) e h =
@@ -147,54 +148,68 @@ lowest-stays p k i (suc n) e h =
     (λ (l : k < suc n). rw (lowest-stays p k i n e (omega arith)))
     (eq-or-lt_of_le h)
 
-pub lowest-found : (p : ℕ → Bool) (i n : ℕ) → lowest p i ≡ Nowhere → p i ≡ true → i < n → lowest p n ≡ At i
+pub lowest-found : (p : ℕ → Bool) (i n : ℕ) → lowest p i ≡ None → p i ≡ true → i < n → lowest p n ≡ Some i
 unfolding lowest
 lowest-found p i n e t h = lowest-stays p (suc i) i n (rw (e, t)) h
 
-pub lowest-none : (p : ℕ → Bool) (n : ℕ) → ((k : ℕ) → k < n → p k ≡ false) → lowest p n ≡ Nowhere
+pub lowest-none : (p : ℕ → Bool) (n : ℕ) → ((k : ℕ) → k < n → p k ≡ false) → lowest p n ≡ None
 lowest-none p zero h = lowest-zero p
 lowest-none p (suc n) h = lowest-more p n (lowest-none p n (λ k l. h k (omega arith))) (h n (omega arith))
 
 -- the lowest, told by what it is
-pub lowest-is : (p : ℕ → Bool) (i n : ℕ) → p i ≡ true → i < n → ((k : ℕ) → k < i → p k ≡ false) → lowest p n ≡ At i
+pub lowest-is : (p : ℕ → Bool) (i n : ℕ) → p i ≡ true → i < n → ((k : ℕ) → k < i → p k ≡ false) → lowest p n ≡ Some i
 lowest-is p i n t l h = lowest-found p i n (lowest-none p i h) t l
 
--- what an answer says of the places
-abbrev Told : (ℕ → Bool) → ℕ → Place → Type 0
-Told p n (At i) = (p i ≡ true) × (i < n) × ((k : ℕ) → k < i → p k ≡ false)
-Told p n Nowhere = (k : ℕ) → k < n → p k ≡ false
+-- the lowest, told by a search from a on, below which no place has the property
+pub lowest-searched : (p : ℕ → Bool) (a n : ℕ) → ((k : ℕ) → k < a → p k ≡ false) → {r : Option ℕ} →
+    MatchOption r ((k : ℕ) → a ≤ k → k < n → p k ≡ false) (λ i. (a ≤ i) × (i < n) × (p i ≡ true) × ((k : ℕ) → a ≤ k → k < i → p k ≡ false)) →
+    r ≡ lowest p n
+lowest-searched p a n before {r = r} t = at r t
+  where
+    each : (m : ℕ) → ((k : ℕ) → a ≤ k → k < m → p k ≡ false) → (k : ℕ) → k < m → p k ≡ false
+    each m from k l = ⊎_elim (λ (h : k < a). before k h) (λ (h : a ≤ k). from k h l) (cases_lt k a)
 
-told_more : (p : ℕ → Bool) (n : ℕ) (r : Place) (b : Bool) → p n ≡ b → Told p n r → Told p (suc n) (or_else r (cond b (At n) Nowhere))
-told_more p n (At i) b e t = (t.0, omega (arith, t.1), t.2)
-told_more p n Nowhere true e t = (e, omega arith, t)
-told_more p n Nowhere false e t = λ k l. ⊎_elim (λ (q : k ≡ n). rw q e) (λ (m : k < n). t k m) (eq-or-lt_of_le (le_of_suc-le-suc l))
+    at : (r : Option ℕ) → MatchOption r ((k : ℕ) → a ≤ k → k < n → p k ≡ false) (λ i. (a ≤ i) × (i < n) × (p i ≡ true) × ((k : ℕ) → a ≤ k → k < i → p k ≡ false)) →
+        r ≡ lowest p n
+    at None t = sym (lowest-none p n (each n t))
+    at (Some i) t = sym (lowest-is p i n t.2 t.1 (each i t.3))
+
+-- what an answer says of the places
+abbrev Told : (ℕ → Bool) → ℕ → Option ℕ → Type 0
+Told p n (Some i) = (p i ≡ true) × (i < n) × ((k : ℕ) → k < i → p k ≡ false)
+Told p n None = (k : ℕ) → k < n → p k ≡ false
+
+told_more : (p : ℕ → Bool) (n : ℕ) (r : Option ℕ) (b : Bool) → p n ≡ b → Told p n r → Told p (suc n) (option_or r (cond b (Some n) None))
+told_more p n (Some i) b e t = (t.0, omega (arith, t.1), t.2)
+told_more p n None true e t = (e, omega arith, t)
+told_more p n None false e t = λ k l. ⊎_elim (λ (q : k ≡ n). rw q e) (λ (m : k < n). t k m) (eq-or-lt_of_le (le_of_suc-le-suc l))
 
 told : (p : ℕ → Bool) (n : ℕ) → Told p n (lowest p n)
 unfolding lowest
 told p zero = λ k l. absurd (omega arith)
 told p (suc n) = told_more p n (lowest p n) (p n) refl (told p n)
 
-pub none_of : (p : ℕ → Bool) (n : ℕ) → lowest p n ≡ Nowhere → (k : ℕ) → k < n → p k ≡ false
+pub none_of : (p : ℕ → Bool) (n : ℕ) → lowest p n ≡ None → (k : ℕ) → k < n → p k ≡ false
 none_of p n e = subst (Told p n) e (told p n)
 
-pub found : (p : ℕ → Bool) (n i : ℕ) → lowest p n ≡ At i → (p i ≡ true) × (i < n) × ((k : ℕ) → k < i → p k ≡ false)
+pub found : (p : ℕ → Bool) (n i : ℕ) → lowest p n ≡ Some i → (p i ≡ true) × (i < n) × ((k : ℕ) → k < i → p k ≡ false)
 found p n i e = subst (Told p n) e (told p n)
 
 -- a range in two parts
-or-shift : (r q : Place) (n k : ℕ) (b : Bool) → or_else (or_else r (shift n q)) (cond b (At (n + k)) Nowhere) ≡ or_else r (shift n (or_else q (cond b (At k) Nowhere)))
-or-shift (At i) q n k b = refl
-or-shift Nowhere (At i) n k b = refl
-or-shift Nowhere Nowhere n k true = refl
-or-shift Nowhere Nowhere n k false = refl
+or-shift : (r q : Option ℕ) (n k : ℕ) (b : Bool) → option_or (option_or r (shift n q)) (cond b (Some (n + k)) None) ≡ option_or r (shift n (option_or q (cond b (Some k) None)))
+or-shift (Some i) q n k b = refl
+or-shift None (Some i) n k b = refl
+or-shift None None n k true = refl
+or-shift None None n k false = refl
 
-or-none : (r : Place) → r ≡ or_else r Nowhere
-or-none (At i) = refl
-or-none Nowhere = refl
+or-none : (r : Option ℕ) → r ≡ option_or r None
+or-none (Some i) = refl
+or-none None = refl
 
-pub lowest-add : (p : ℕ → Bool) (n k : ℕ) → lowest p (n + k) ≡ or_else (lowest p n) (shift n (lowest (λ i. p (n + i)) k))
+pub lowest-add : (p : ℕ → Bool) (n k : ℕ) → lowest p (n + k) ≡ option_or (lowest p n) (shift n (lowest (λ i. p (n + i)) k))
 unfolding lowest
 lowest-add p n zero = rw add-zero (or-none (lowest p n))
 lowest-add p n (suc k) =
     rw add-suc
-    (ap (λ (r : Place). or_else r (cond (p (n + k)) (At (n + k)) Nowhere)) (lowest-add p n k)
+    (ap (λ (r : Option ℕ). option_or r (cond (p (n + k)) (Some (n + k)) None)) (lowest-add p n k)
     ∙ or-shift (lowest p n) (lowest (λ i. p (n + i)) k) n k (p (n + k)))

@@ -21,9 +21,6 @@ module _ (g : ℕ → Vec3) (l : List Float) (p : ℕ) where
   pub fill_more : (i : ℕ) (m w : List Float) (v : Vec3) → m ≡ store vector l p (field i g) → v ≡ g i → w ≡ put vector m (p + 3 * i) v → w ≡ store vector l p (field (i + 1) g)
   fill_more i m w v e h f = f ∙ rw add-one (map_more vector vector-lawful l p i g m v e h)
 
-  pub fill-ended : (i n : ℕ) (w : List Float) → w ≡ store vector l p (field i g) → i ≤ n → n ≤ i → w ≡ store vector l p (field n g)
-  fill-ended i n w e a b = let q : i ≡ n = omega arith in rw q at e
-
   -- what was stored
   pub filled_at : (n i : ℕ) (w : List Float) → w ≡ store vector l p (field (i + 1) g) → p + 3 * n ≤ length l → i < n → get vector w (p + 3 * i) ≡ at (field n g) i
   filled_at n i w e m h =

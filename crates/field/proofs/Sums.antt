@@ -8,7 +8,8 @@ use native.Mathlib.Numerals.{add-one}
 use native.Mathlib.Omega.{arith}
 use borrow.Author.Tests.{eq-eqb, ne_eqb}
 use lib.Dec.{eqb}
-use Rattle.field.specs.Count.{sum_below, indicator, count_below}
+use Rattle.std.specs.Int.{from_bool}
+use Rattle.field.specs.Count.{sum_below, count_below}
 
 pub sum-none : (g : ℕ → ℕ) → sum_below g 0 ≡ 0
 unfolding sum_below
@@ -67,15 +68,15 @@ sum-full g (suc n) h e i l =
 
 -- ---- how many
 
-pub indicator-most : (b : Bool) → indicator b ≤ 1
-indicator-most true = omega arith
-indicator-most false = omega arith
+pub from_bool-most : (b : Bool) → from_bool b ≤ 1
+from_bool-most true = omega arith
+from_bool-most false = omega arith
 
 pub count_none : (p : ℕ → Bool) → count_below p 0 ≡ 0
 unfolding count_below
-count_none p = sum-none (λ i. indicator (p i))
+count_none p = sum-none (λ i. from_bool (p i))
 
-pub count-more : (p : ℕ → Bool) (i k c : ℕ) → k ≡ count_below p i → c ≡ indicator (p i) → k + c ≡ count_below p (i + 1)
+pub count-more : (p : ℕ → Bool) (i k c : ℕ) → k ≡ count_below p i → c ≡ from_bool (p i) → k + c ≡ count_below p (i + 1)
 unfolding count_below
 count-more p i k c e f = rw (add-one, sum-suc, e, f)
 
@@ -90,15 +91,15 @@ count-grows p i (suc k) h =
 
 pub count-ext : (p q : ℕ → Bool) (k : ℕ) → ((i : ℕ) → i < k → p i ≡ q i) → count_below p k ≡ count_below q k
 unfolding count_below
-count-ext p q k e = sum-ext (λ i. indicator (p i)) (λ i. indicator (q i)) k (λ i l. ap indicator (e i l))
+count-ext p q k e = sum-ext (λ i. from_bool (p i)) (λ i. from_bool (q i)) k (λ i l. ap from_bool (e i l))
 
 -- one of 0, .. n - 1 is a
-none_before : (a n : ℕ) → n ≤ a → sum_below (λ i. indicator (eqb a i)) n ≡ 0
+none_before : (a n : ℕ) → n ≤ a → sum_below (λ i. from_bool (eqb a i)) n ≡ 0
 unfolding sum_below
 none_before a zero h = refl
 none_before a (suc n) h = rw (none_before a n (omega arith), ne_eqb a n (λ (e : a ≡ n). omega arith))
 
-pub sum_one : (a n : ℕ) → a < n → sum_below (λ i. indicator (eqb a i)) n ≡ 1
+pub sum_one : (a n : ℕ) → a < n → sum_below (λ i. from_bool (eqb a i)) n ≡ 1
 unfolding sum_below
 sum_one a zero h = absurd (omega arith)
 sum_one a (suc n) h =

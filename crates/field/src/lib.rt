@@ -12,13 +12,6 @@ pub struct Vec3 {
     pub z: f64,
 }
 
-// The lowest place with some property, where there is one.
-#[derive(Clone, Copy)]
-pub enum Place {
-    At(usize),
-    Nowhere,
-}
-
 impl Vec3 {
     pub fn add(self, other: Vec3) -> Vec3
         ensures { result ≡ plus self other }
@@ -119,34 +112,16 @@ pub fn copy3(src: &[f64], from: usize, dst: &mut [f64], into: usize, n: usize)
     requires { (from + 3 * n ≤ length src.now) × (into + 3 * n ≤ length dst.old) }
     ensures { dst.new ≡ store vector dst.old into (load vector src.now from n) }
 {
-    let mut i = 0usize;
-    while i < n {
-        let v = get3(src, from + 3 * i);
-        put3(dst, into + 3 * i, v);
-        i += 1;
-    }
+    let count = 3 * n;
+    dst[into..into + count].copy_from_slice(&src[from..from + count]);
 }
 
-// The first m numbers become +0.0.
-pub fn clear(s: &mut [f64], m: usize)
-    requires { m ≤ length s.old }
-    ensures { s.new ≡ replicate m null ++ drop m s.old }
+// The first m items become `zero`, of which each copy is the same.
+pub fn clear<T: Copy>(s: &mut [T], m: usize, zero: T)
+    requires in_bounds { m ≤ length s.old }
+    requires copies { T.is_infallible zero }
+    requires same { (y : T) → T.is_clone zero y → y ≡ zero }
+    ensures { s.new ≡ replicate m zero ++ drop m s.old }
 {
-    let mut k = 0usize;
-    while k < m {
-        s[k] = 0.0;
-        k += 1;
-    }
-}
-
-// The first m numbers become 0.
-pub fn clear_numbers(s: &mut [usize], m: usize)
-    requires { m ≤ length s.old }
-    ensures { s.new ≡ replicate m 0 ++ drop m s.old }
-{
-    let mut i = 0usize;
-    while i < m {
-        s[i] = 0;
-        i += 1;
-    }
+    s[..m].fill(zero);
 }

@@ -2,13 +2,13 @@
 use Prim.Native.Nat.{ℕ, zero, suc, ◌+◌, ◌≤◌, ◌<◌}
 use mathlib.Core.Path.{◌≡◌, refl, sym, ap, ◌∙◌}
 use mathlib.Core.Logic.{⊎_elim}
-use mathlib.Core.List.{List, [], ◌∷◌, ◌++◌, append_assoc, append-nil}
+use mathlib.Core.List.{List, [], ◌∷◌, ◌++◌, append_assoc}
 use mathlib.Core.Bool.{Bool, true, false, cond, ◌||◌, or_assoc, or-true, or-false, true≢false}
 use native.Mathlib.Nat.{eq-or-lt_of_le, le_of_suc-le-suc}
 use native.Mathlib.Numerals.{add-one}
 use native.Mathlib.Omega.{arith}
-use lib.ListN.{length, set, drop, length-set}
-use lib.Seq.{set_at, drop-cons, drop-length}
+use lib.ListN.{length, set, drop}
+use lib.Seq.{set_at, drop-cons}
 use lib.Dec.{eqb}
 use borrow.Author.Tests.{eq-eqb, ne_eqb, eqb-true, eqb-false}
 use Rattle.field.specs.Count.{field}
@@ -92,9 +92,6 @@ count-other p f c d =
 
 -- after c cameras: their labels stand in front, and are counted
 pub record LabelledBelow (p₀ l₀ p l : List ℕ) (count c : ℕ) : Type 0 where
-  pub within : c ≤ length l₀
-  pub parents : length p ≡ length p₀
-  pub labels : length l ≡ length l₀
   pub same : SameRoots p₀ p
   pub listed : l ≡ field c (root_of p₀) ++ drop c l₀
   pub counted : count ≡ distinct (field c (root_of p₀))
@@ -102,36 +99,19 @@ pub record LabelledBelow (p₀ l₀ p l : List ℕ) (count c : ℕ) : Type 0 whe
 
 pub labels-none : {p : List ℕ} (l : List ℕ) → Forest p → LabelledBelow p l p l 0 0
 unfolding field distinct
-labels-none {p} l f =
-    record {
-      within = omega arith;
-      parents = refl;
-      labels = refl;
-      same = same-roots-refl p f;
-      listed = refl;
-      counted = refl;
-      few = omega arith;
-    }
+labels-none {p} l f = record { same = same-roots-refl p f; listed = refl; counted = refl; few = omega arith }
 
 -- one camera more: its label stands, and is counted if it is the camera itself
-module _ {p₀ l₀ p l q : List ℕ} {count c r : ℕ} (f : Forest p₀) (i : LabelledBelow p₀ l₀ p l count c) (k : Climbed p c r q) (n : length q ≡ length p) (h : c < length l) where
+module _ {p₀ l₀ p l q : List ℕ} {count c r : ℕ} (f : Forest p₀) (i : LabelledBelow p₀ l₀ p l count c) (k : Climbed p c r q) (h : c < length l₀) where
   found : r ≡ root_of p₀ c
   found = k.found ∙ i.same.root c
 
   label-more : set l c r ≡ field (c + 1) (root_of p₀) ++ drop (c + 1) l₀
-  label-more = rw (i.listed, add-one, found) (field-more (root_of p₀) c l₀ (omega (arith, i.labels)))
+  label-more = rw (i.listed, add-one, found) (field-more (root_of p₀) c l₀ h)
 
   label-step : {count' : ℕ} → count' ≡ distinct (field (suc c) (root_of p₀)) → count' ≤ c + 1 → LabelledBelow p₀ l₀ q (set l c r) count' (c + 1)
   label-step e w =
-      record {
-        within = omega (arith, i.labels);
-        parents = n ∙ i.parents;
-        labels = length-set l c r ∙ i.labels;
-        same = same-roots-trans _ _ _ i.same k.same;
-        listed = label-more;
-        counted = rw add-one e;
-        few = w;
-      }
+      record { same = same-roots-trans _ _ _ i.same k.same; listed = label-more; counted = rw add-one e; few = w }
 
   pub label-own : {count' : ℕ} → r ≡ c → count' ≡ count + 1 → LabelledBelow p₀ l₀ q (set l c r) count' (c + 1)
   label-own e t =
@@ -140,9 +120,3 @@ module _ {p₀ l₀ p l q : List ℕ} {count c r : ℕ} (f : Forest p₀) (i : L
   pub label-other : {count' : ℕ} → (r ≡ c → ⊥) → count' ≡ count → LabelledBelow p₀ l₀ q (set l c r) count' (c + 1)
   label-other d t =
       label-step (t ∙ rw i.counted (sym (count-other p₀ f c (λ e. d (found ∙ e))))) (omega (arith, i.few))
-
-pub labels-all : {p₀ l₀ p l : List ℕ} {count c : ℕ} → LabelledBelow p₀ l₀ p l count c → length l ≤ c → (l ≡ field (length l₀) (root_of p₀)) × (count ≡ distinct l)
-labels-all {p₀} {l₀} {c = c} i h =
-    let e : c ≡ length l₀ = omega (arith, i.labels, i.within) in
-    let f = rw (e, drop-length l₀, append-nil) at i.listed in
-    (f, rw (f, ← e) i.counted)

@@ -1,4 +1,5 @@
 -- Document 01, 'Values at the edges': n=3, direction 0-1 weight 1, 1-2 weight 0: not connected, labels 0 0 2. Assumes nothing.
+use Rattle.std.proofs.Common.{Ok, false}
 use Prim.Native.Nat.{ℕ, zero, suc, ◌≤◌, ◌<◌}
 use mathlib.Core.Path.{◌≡◌, refl, sym}
 use mathlib.Core.Logic.{⊎_elim, inr}
@@ -13,8 +14,6 @@ use Rattle.network.proofs.Computing.{refusals}
 use Rattle.graph.specs.Walk.{Walk, stay, step}
 use Rattle.graph.specs.Joined.{second_node, SamePair, Joined, Connected, Label}
 use Rattle.graph.specs.Distinct.{occurs, distinct}
-use Rattle.graph.specs.declared.Connectivity.TheVariants.{Disconnected}
-use Rattle.graph.specs.declared.Listing.TheVariants.{Parts}
 use Rattle.graph.specs.Outcome.{connectivity_fits, connectivity_tests, listing_fits, listing_tests, ConnectivityCall, ListingCall}
 use Rattle.graph.specs.Edges.{two_parts}
 use Rattle.graph.specs.inner.Forest.{Forest, climb, root_of, RootsZero, Spans}
@@ -68,10 +67,10 @@ label_of (suc zero) h = label (suc zero) h
 label_of (suc (suc zero)) h = label (suc (suc zero)) h
 label_of (suc (suc (suc c))) h = absurd (omega arith)
 
-pub two-parts : (a b c : ℕ) → ConnectivityCall two_parts Disconnected (a ∷ b ∷ c ∷ []) (0 ∷ 0 ∷ 0 ∷ [])
+pub two-parts : (a b c : ℕ) → ConnectivityCall two_parts (Ok false) (a ∷ b ∷ c ∷ []) (0 ∷ 0 ∷ 0 ∷ [])
 unfolding refusals connectivity_tests connectivity_fits
 two-parts a b c = record { decided = inr (refl, apart); nodes_out = refl }
 
-pub two-labels : (a b c x y z : ℕ) → ListingCall two_parts (Parts 2) (a ∷ b ∷ c ∷ []) (0 ∷ 0 ∷ 0 ∷ []) (x ∷ y ∷ z ∷ []) labels
+pub two-labels : (a b c x y z : ℕ) → ListingCall two_parts (Ok 2) (a ∷ b ∷ c ∷ []) (0 ∷ 0 ∷ 0 ∷ []) (x ∷ y ∷ z ∷ []) labels
 unfolding refusals listing_tests listing_fits connectivity_fits distinct occurs
 two-labels a b c x y z = record { parts = refl; labels_out = record { count = refl; label = label_of }; nodes_out = refl }

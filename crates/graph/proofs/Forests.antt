@@ -1,18 +1,17 @@
 -- Laws of roots in a parent list. Assumes nothing.
-use Prim.Native.Nat.{ℕ, zero, suc, ◌+◌, ◌≤◌, ◌<◌, min, max}
+use Prim.Native.Nat.{ℕ, zero, suc, ◌≤◌, ◌<◌, min, max}
 use mathlib.Core.Path.{◌≡◌, refl, sym, ap, ◌∙◌}
 use mathlib.Core.Logic.{⊎_elim, ◌⊎◌, by_cases}
 use mathlib.Core.List.{List}
-use mathlib.Core.Bool.{true, false, cond, true≢false}
+use mathlib.Core.Bool.{cond}
 use native.Mathlib.Nat.{eq-or-lt_of_le}
 use native.Mathlib.Decide.{ℕ_discrete}
 use native.Mathlib.Omega.{arith}
-use lib.ListN.{length, set, length-set}
+use lib.ListN.{length, set}
 use lib.Seq.{get_or-set_same, get_or-set_other, set-get_or}
 use lib.Dec.{eqb}
-use borrow.Author.Count.{below_none, below_more}
 use borrow.Author.Tests.{eq-eqb, ne_eqb}
-use Rattle.graph.specs.inner.Forest.{parent, Forest, Singletons, climb, root_of, SameRoots, Halved, Climbed, merged, Merged, RootsZero, Decides}
+use Rattle.graph.specs.inner.Forest.{parent, Forest, climb, root_of, SameRoots, Halved, Climbed, merged, Merged}
 
 climb-top : (p : List ℕ) (k x : ℕ) → parent p x ≡ x → climb p k x ≡ x
 unfolding climb
@@ -227,53 +226,3 @@ module _ {p p₁ p₂ : List ℕ} {a b u v : ℕ} (s : Climbed p a u p₁) (t : 
   joined-right d h k l =
       let w : u < length p₂ = omega (arith, s.below) in
       rw (at_a, at_b) (merged-from _ (merge-right p₂ both.forest a b (omega (arith, at_a, at_b)) (omega (arith, at_a, at_b))))
-
--- each of the first i nodes is its own parent: none, one more, and all
-pub record Owned (i : ℕ) (p₀ p : List ℕ) : Type 0 where
-  pub within : i ≤ length p
-  pub size : length p ≡ length p₀
-  pub own : (x : ℕ) → x < i → parent p x ≡ x
-
-pub owned-none : (p : List ℕ) → Owned 0 p p
-owned-none p = record { within = omega arith; size = refl; own = below_none _ }
-
-pub owned-more : {i : ℕ} {p₀ p : List ℕ} → Owned i p₀ p → i < length p → Owned (i + 1) p₀ (set p i i)
-owned-more {i} {p₀} {p} o h =
-    record {
-      within = simp length-set (omega arith);
-      size = length-set p i i ∙ o.size;
-      own =
-          below_more (λ x. parent (set p i i) x ≡ x) i
-          (λ x l. get_or-set_other p i x i 0 (λ (e : x ≡ i). omega arith) ∙ o.own x l)
-          (get_or-set_same p i i 0 h);
-    }
-
-pub owned-all : {i : ℕ} {p₀ p : List ℕ} → Owned i p₀ p → length p ≤ i → Singletons p
-owned-all o h = record { own = λ x l. o.own x (omega arith) }
-
--- ---- the cameras, asked one by one
-
--- each of the first c nodes has the root 0 in p₀; p has the roots of p₀
-pub record ZeroBelow (c : ℕ) (p₀ p : List ℕ) : Type 0 where
-  pub size : length p ≡ length p₀
-  pub same : SameRoots p₀ p
-  pub zero : (x : ℕ) → x < c → root_of p₀ x ≡ 0
-
-pub zero-none : {p : List ℕ} → Forest p → ZeroBelow 0 p p
-zero-none {p} f = record { size = refl; same = same-roots-refl p f; zero = below_none _ }
-
-pub zero_more : {c r : ℕ} {p₀ p q : List ℕ} → ZeroBelow c p₀ p → Climbed p c r q → length q ≡ length p → r ≡ 0 → ZeroBelow (c + 1) p₀ q
-zero_more {c} {r} {p₀} z k l e =
-    record {
-      size = l ∙ z.size;
-      same = same-roots-trans _ _ _ z.same k.same;
-      zero = below_more (λ x. root_of p₀ x ≡ 0) c z.zero (sym (z.same.root c) ∙ sym k.found ∙ e);
-    }
-
-pub zero-all : {c n : ℕ} {p₀ p : List ℕ} → ZeroBelow c p₀ p → n ≤ c → Decides true (RootsZero p₀ n)
-unfolding RootsZero
-zero-all z h = record { yes = λ _ x l. z.zero x (omega arith); no = λ e. absurd (true≢false e) }
-
-pub zero-not : {c n r : ℕ} {p₀ p q : List ℕ} → ZeroBelow c p₀ p → Climbed p c r q → c < n → (r ≡ 0 → ⊥) → Decides false (RootsZero p₀ n)
-unfolding RootsZero
-zero-not {c} z k h d = record { yes = λ e. absurd (true≢false (sym e)); no = λ _ all. d (k.found ∙ z.same.root c ∙ all c h) }

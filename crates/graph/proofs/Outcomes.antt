@@ -1,4 +1,5 @@
 -- What the functions behind an entry point ensure, taken together. Assumes nothing.
+use Rattle.std.proofs.Common.{Err, Ok, Result}
 use Prim.Native.Nat.{ℕ, ◌*◌, ◌≤◌}
 use mathlib.Core.Path.{◌≡◌, refl, sym, ap, ◌∙◌}
 use mathlib.Core.Logic.{inl, inr}
@@ -15,15 +16,11 @@ use Rattle.field.proofs.Counting.{length-field, get_or-field}
 use Rattle.network.specs.declared.Shape.{Shape}
 use Rattle.network.specs.Network.{Graph, graph, rows}
 use Rattle.network.specs.declared.Refusal.{Refusal}
-use Rattle.network.specs.declared.Verdict.{Verdict}
-use Rattle.network.specs.declared.Verdict.TheVariants as tested
+use Rattle.network.specs.Refusals.{Verdict}
 use Rattle.network.specs.Refusals.{verdict, count_tests, ends_fit, length_tests}
 use Rattle.network.specs.inner.Sound.{ShapeSound, GraphSound}
 use Rattle.network.proofs.Verdicts.{stage-passed}
 use Rattle.network.proofs.Sound.{counts-sound, counted, lengths-fit, measured, ends-fit, graph-sound}
-use Rattle.graph.specs.declared.Connectivity.{Connectivity}
-use Rattle.graph.specs.declared.Connectivity.TheVariants as connectivity
-use Rattle.graph.specs.declared.Listing.TheVariants as listing
 use Rattle.graph.specs.Joined.{Joined, Connected}
 use Rattle.graph.specs.Distinct.{distinct}
 use Rattle.graph.specs.Outcome.{node_count, connectivity_fits, connectivity_tests, listing_fits, listing_tests, nodes_after, Decided, Labelled, ConnectivityCall, ListingCall}
@@ -48,11 +45,9 @@ labelled {g} {p} {labels} {n} s h i e =
           (lowest-root (Joined g) (symmetric g (rows g.shape)) p s g.shape.cameras (omega arith) c l);
     })
 
-pub decided-yes : (g : Graph) {r : Bool} → Decides r (Connected g) → r ≡ true → Decided g tested.Passed connectivity.Connected
-decided-yes g d e = inl (refl, d.yes e)
-
-pub decided-no : (g : Graph) {r : Bool} → Decides r (Connected g) → r ≡ false → Decided g tested.Passed connectivity.Disconnected
-decided-no g d e = inr (refl, d.no e)
+pub answer-decided : (g : Graph) {r : Bool} → Decides r (Connected g) → Decided g (Ok tt) (Ok r)
+answer-decided g {r = true} d = inl (refl, d.yes refl)
+answer-decided g {r = false} d = inr (refl, d.no refl)
 
 -- the first k numbers are changed, and then cleared
 pub zeroed : (k : ℕ) (old front : List ℕ) {new : List ℕ} → new ≡ replicate k 0 ++ drop k (front ++ drop k old) → length front ≡ length (take k old) → k ≤ length old →
@@ -76,19 +71,19 @@ lengths-tested e h = e ∙ ap (λ t. verdict (length_tests t)) h
 
 -- what 1 to 3 have shown: counts in range, and a length for each row
 module _ (s : Shape) (ends : List ℕ) (weights : List Float) (nodes : ℕ) {w x : Verdict} {fit : Bool} where
-  pub connectivity-measured : fit ≡ connectivity_fits (graph s ends weights) nodes → x ≡ verdict (length_tests fit) → x ≡ tested.Passed →
-      w ≡ verdict (count_tests s) → w ≡ tested.Passed → ShapeSound s × ((length ends ≡ 2 * rows s) × (length weights ≡ rows s))
+  pub connectivity-measured : fit ≡ connectivity_fits (graph s ends weights) nodes → x ≡ verdict (length_tests fit) → x ≡ Ok tt →
+      w ≡ verdict (count_tests s) → w ≡ Ok tt → ShapeSound s × ((length ends ≡ 2 * rows s) × (length weights ≡ rows s))
   connectivity-measured f e h d k = (counted d k, ends-fit _ _ _ (connectivity-fits (graph s ends weights) nodes (measured e h f)).0)
 
-  pub listing-measured : (labels : ℕ) → fit ≡ listing_fits (graph s ends weights) nodes labels → x ≡ verdict (length_tests fit) → x ≡ tested.Passed →
-      w ≡ verdict (count_tests s) → w ≡ tested.Passed → ShapeSound s × ((length ends ≡ 2 * rows s) × (length weights ≡ rows s))
+  pub listing-measured : (labels : ℕ) → fit ≡ listing_fits (graph s ends weights) nodes labels → x ≡ verdict (length_tests fit) → x ≡ Ok tt →
+      w ≡ verdict (count_tests s) → w ≡ Ok tt → ShapeSound s × ((length ends ≡ 2 * rows s) × (length weights ≡ rows s))
   listing-measured labels f e h d k =
       let l = listing-fits (graph s ends weights) nodes labels (measured e h f) in
       (counted d k, ends-fit _ _ _ (connectivity-fits (graph s ends weights) nodes l.0).0)
 
 -- ---- a whole call: what its tests have shown, and what it answers and leaves
 
-pub connectivity-sound : {g : Graph} {nodes : ℕ} {v : Verdict} → v ≡ verdict (connectivity_tests g nodes) → v ≡ tested.Passed → GraphSound g × (node_count g ≤ nodes)
+pub connectivity-sound : {g : Graph} {nodes : ℕ} {v : Verdict} → v ≡ verdict (connectivity_tests g nodes) → v ≡ Ok tt → GraphSound g × (node_count g ≤ nodes)
 unfolding connectivity_tests
 connectivity-sound {g} {nodes} e h =
     let a = stage-passed (count_tests g.shape) _ (sym e ∙ h) in
@@ -96,7 +91,7 @@ connectivity-sound {g} {nodes} e h =
     let f = connectivity-fits g nodes (lengths-fit _ b.0) in
     (graph-sound g (counts-sound _ a.0) f.0 b.1, f.1)
 
-pub listing-sound : {g : Graph} {nodes labels : ℕ} {v : Verdict} → v ≡ verdict (listing_tests g nodes labels) → v ≡ tested.Passed →
+pub listing-sound : {g : Graph} {nodes labels : ℕ} {v : Verdict} → v ≡ verdict (listing_tests g nodes labels) → v ≡ Ok tt →
     GraphSound g × ((node_count g ≤ nodes) × (labels ≡ g.shape.cameras))
 unfolding listing_tests
 listing-sound {g} {nodes} {labels} e h =
@@ -107,17 +102,17 @@ listing-sound {g} {nodes} {labels} e h =
     (graph-sound g (counts-sound _ a.0) f.0 b.1, (f.1, k.1))
 
 module _ {g : Graph} {nodes : List ℕ} {v : Verdict} (e : v ≡ verdict (connectivity_tests g (length nodes))) where
-  pub connectivity-refused : {r : Refusal} → v ≡ tested.Refused r → ConnectivityCall g (connectivity.Refused r) nodes nodes
+  pub connectivity-refused : {r : Refusal} → v ≡ Err r → ConnectivityCall g (Err r) nodes nodes
   connectivity-refused h = let w = sym e ∙ h in record { decided = rw w refl; nodes_out = rw w refl }
 
-  pub connectivity-passed : {a : Connectivity} {nodes' : List ℕ} → v ≡ tested.Passed → Decided g tested.Passed a → nodes' ≡ nodes_after g tested.Passed nodes →
+  pub connectivity-passed : {a : Result Bool Refusal} {nodes' : List ℕ} → v ≡ Ok tt → Decided g (Ok tt) a → nodes' ≡ nodes_after g (Ok tt) nodes →
       ConnectivityCall g a nodes nodes'
   connectivity-passed h d z = let w = sym e ∙ h in record { decided = rw w d; nodes_out = rw w z }
 
 module _ {g : Graph} {nodes labels : List ℕ} {v : Verdict} (e : v ≡ verdict (listing_tests g (length nodes) (length labels))) where
-  pub listing-refused : {r : Refusal} → v ≡ tested.Refused r → ListingCall g (listing.Refused r) nodes nodes labels labels
+  pub listing-refused : {r : Refusal} → v ≡ Err r → ListingCall g (Err r) nodes nodes labels labels
   listing-refused h = let w = sym e ∙ h in record { parts = rw w refl; labels_out = rw w refl; nodes_out = rw w refl }
 
-  pub listing-passed : {count : ℕ} {nodes' labels' : List ℕ} → v ≡ tested.Passed → Labelled g labels' → count ≡ distinct labels' → nodes' ≡ nodes_after g tested.Passed nodes →
-      ListingCall g (listing.Parts count) nodes nodes' labels labels'
-  listing-passed h l c z = let w = sym e ∙ h in record { parts = rw w (ap listing.Parts c); labels_out = rw w l; nodes_out = rw w z }
+  pub listing-passed : {count : ℕ} {nodes' labels' : List ℕ} → v ≡ Ok tt → Labelled g labels' → count ≡ distinct labels' → nodes' ≡ nodes_after g (Ok tt) nodes →
+      ListingCall g (Ok count) nodes nodes' labels labels'
+  listing-passed h l c z = let w = sym e ∙ h in record { parts = rw w (ap Ok c); labels_out = rw w l; nodes_out = rw w z }

@@ -10,11 +10,12 @@ use native.Mathlib.Decide.{dec_le, dec_lt}
 use native.Mathlib.Omega.{arith}
 use lib.ListN.{length, get_or, get_or-eq_default}
 use lib.Dec.{eqb}
-use lib.Ieee.{Float, lt, nan}
+use lib.Ieee.{lt, nan}
 use borrow.Author.Tests.{eq-eqb, eqb-true, lt-ltb, le-ltb}
 use Rattle.field.specs.Vec.{null}
 use Rattle.network.specs.declared.Shape.{Shape}
-use Rattle.network.specs.Network.{Graph, graph, rows, first_end, second_end}
+use Rattle.network.specs.Network.{Graph, rows, first_end, second_end}
+use Rattle.graph.specs.Outcome.{node_count}
 use Rattle.graph.specs.Walk.{Walk, stay, step, Connects, LowestReached}
 use Rattle.graph.specs.Joined.{second_node, SamePair, Joined, JoinedBelow}
 use Rattle.graph.specs.inner.Forest.{Forest, Singletons, RootsZero, root_of, merged, Merged, Spans}
@@ -113,12 +114,11 @@ module _ (g : Graph) where
       p q s)
 
 -- the same, of the nodes a and b that were read
-pub spans-row : {s : Shape} {ends : List ℕ} {weights : List Float} {k a b : ℕ} {p q : List ℕ} → lt null (get_or weights k nan) ≡ true →
-    Spans (JoinedBelow (graph s ends weights) k) p → length p ≡ s.cameras + s.points →
-    a ≡ first_end ends k → a < s.cameras → b ≡ second_node s ends k → b < s.cameras + s.points → Merged p q a b → length q ≡ length p →
-    Spans (JoinedBelow (graph s ends weights) (k + 1)) q
-spans-row {s} {ends} {weights} {k} {a} {b} {p} {q} w t h e i f j m l =
-    row-joins (graph s ends weights) k p q w t (rw (e, f) at m) (omega arith) (omega arith) l
+pub spans-row : {g : Graph} {k a b : ℕ} {p q : List ℕ} → lt null (get_or g.weights k nan) ≡ true →
+    Spans (JoinedBelow g k) p → length p ≡ node_count g →
+    a ≡ first_end g.ends k → a < g.shape.cameras → b ≡ second_node g.shape g.ends k → b < node_count g → Merged p q a b → length q ≡ length p →
+    Spans (JoinedBelow g (k + 1)) q
+spans-row {g} {k} {a} {b} {p} {q} w t h e i f j m l = row-joins g k p q w t (rw (e, f) at m) (omega arith) (omega arith) l
 
 -- row k has the weight 0
 pub spans-skip : {g : Graph} {k : ℕ} {p : List ℕ} → lt null (get_or g.weights k nan) ≡ false → Spans (JoinedBelow g k) p → Spans (JoinedBelow g (k + 1)) p

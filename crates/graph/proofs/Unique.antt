@@ -1,4 +1,6 @@
 -- The input of a graph call fixes its answer and what it leaves in every buffer. Assumes nothing.
+use Rattle.std.proofs.Common.{Bool, Err, Ok, Result}
+use Rattle.network.specs.declared.Refusal.{Refusal}
 use Prim.Native.Nat.{ℕ, ◌<◌}
 use mathlib.Core.Path.{◌≡◌, sym, ap, ◌∙◌}
 use mathlib.Core.Logic.{⊎_elim}
@@ -7,11 +9,8 @@ use native.Mathlib.Omega.{arith}
 use lib.ListN.{length}
 use lib.Seq.{ext_get_or}
 use Rattle.network.specs.Network.{Graph}
-use Rattle.network.specs.declared.Verdict.{Verdict}
-use Rattle.network.specs.declared.Verdict.TheVariants as tested
+use Rattle.network.specs.Refusals.{Verdict}
 use Rattle.network.specs.Refusals.{verdict}
-use Rattle.graph.specs.declared.Connectivity.{Connectivity}
-use Rattle.graph.specs.declared.Listing.{Listing}
 use Rattle.graph.specs.Joined.{Joined}
 use Rattle.graph.specs.Outcome.{Decided, Labelled, LabelsAfter, parts_of, connectivity_tests, listing_tests, ConnectivityCall, ListingCall}
 use Rattle.graph.proofs.Walks.{lowest-one}
@@ -23,24 +22,24 @@ labelled-unique g k l s t =
     let i : c < g.shape.cameras = omega (arith, s.count) in
     lowest-one (Joined g) g.shape.cameras c _ _ (s.label c i) (t.label c i))
 
-decided-unique : (g : Graph) (v : Verdict) (a b : Connectivity) → Decided g v a → Decided g v b → a ≡ b
-decided-unique g (tested.Refused r) a b s t = s ∙ sym t
-decided-unique g tested.Passed a b s t =
+decided-unique : (g : Graph) (v : Verdict) (a b : Result Bool Refusal) → Decided g v a → Decided g v b → a ≡ b
+decided-unique g (Err r) a b s t = s ∙ sym t
+decided-unique g (Ok tt) a b s t =
     ⊎_elim
     (λ x. ⊎_elim (λ y. x.0 ∙ sym y.0) (λ y. absurd (y.1 x.1)) t)
     (λ x. ⊎_elim (λ y. absurd (x.1 y.1)) (λ y. x.0 ∙ sym y.0) t)
     s
 
 labels-unique : (g : Graph) (v : Verdict) (labels k l : List ℕ) → LabelsAfter g v labels k → LabelsAfter g v labels l → k ≡ l
-labels-unique g (tested.Refused r) labels k l s t = s ∙ sym t
-labels-unique g tested.Passed labels k l s t = labelled-unique g k l s t
+labels-unique g (Err r) labels k l s t = s ∙ sym t
+labels-unique g (Ok tt) labels k l s t = labelled-unique g k l s t
 
-pub connectivity-unique : (g : Graph) (nodes : List ℕ) (a b : Connectivity) (k l : List ℕ) → ConnectivityCall g a nodes k → ConnectivityCall g b nodes l →
+pub connectivity-unique : (g : Graph) (nodes : List ℕ) (a b : Result Bool Refusal) (k l : List ℕ) → ConnectivityCall g a nodes k → ConnectivityCall g b nodes l →
     (a ≡ b) × (k ≡ l)
 connectivity-unique g nodes a b k l s t =
     (decided-unique g (verdict (connectivity_tests g (length nodes))) a b s.decided t.decided, s.nodes_out ∙ sym t.nodes_out)
 
-pub listing-unique : (g : Graph) (nodes labels : List ℕ) (a b : Listing) (k l i j : List ℕ) → ListingCall g a nodes k labels i → ListingCall g b nodes l labels j →
+pub listing-unique : (g : Graph) (nodes labels : List ℕ) (a b : Result ℕ Refusal) (k l i j : List ℕ) → ListingCall g a nodes k labels i → ListingCall g b nodes l labels j →
     (a ≡ b) × (k ≡ l) × (i ≡ j)
 listing-unique g nodes labels a b k l i j s t =
     let v = verdict (listing_tests g (length nodes) (length labels)) in

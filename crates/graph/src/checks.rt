@@ -5,16 +5,15 @@ ghost use Rattle.network.specs.Refusals.{verdict};
 ghost use Rattle.network.specs.inner.Sound.{ShapeSound};
 ghost use Rattle.graph.specs.Outcome.{connectivity_fits, connectivity_tests, listing_fits, listing_tests};
 
-use network::answers::both;
 use network::lengths::{check_lengths, ends_fit};
-use network::{Shape, Verdict, check_counts, check_graph_rows};
+use network::{Refusal, Shape, check_counts, check_graph_rows};
 
 // Whether the rows' ends and weights have their lengths, and there is room for the nodes.
 fn connectivity_fits(s: Shape, ends: &[usize], weights: &[f64], nodes: usize) -> bool
     requires { ShapeSound s }
     ensures { result ≡ connectivity_fits (graph s ends.now weights.now) nodes }
 {
-    both(ends_fit(s, ends, weights), s.cameras + s.points <= nodes)
+    ends_fit(s, ends, weights) & (s.cameras + s.points <= nodes)
 }
 
 // The same, and just n labels.
@@ -22,23 +21,19 @@ fn listing_fits(s: Shape, ends: &[usize], weights: &[f64], nodes: usize, labels:
     requires { ShapeSound s }
     ensures { result ≡ listing_fits (graph s ends.now weights.now) nodes labels }
 {
-    both(
-        connectivity_fits(s, ends, weights, nodes),
-        labels == s.cameras,
-    )
+    connectivity_fits(s, ends, weights, nodes) & (labels == s.cameras)
 }
 
-pub(crate) fn check_connectivity(s: Shape, ends: &[usize], weights: &[f64], nodes: usize) -> Verdict
+pub(crate) fn check_connectivity(
+    s: Shape,
+    ends: &[usize],
+    weights: &[f64],
+    nodes: usize,
+) -> Result<(), Refusal>
     ensures { result ≡ verdict (connectivity_tests (graph s ends.now weights.now) nodes) }
 {
-    let counts = check_counts(s);
-    if let Verdict::Refused(r) = counts {
-        return Verdict::Refused(r);
-    }
-    let lengths = check_lengths(connectivity_fits(s, ends, weights, nodes));
-    if let Verdict::Refused(r) = lengths {
-        return Verdict::Refused(r);
-    }
+    check_counts(s)?;
+    check_lengths(connectivity_fits(s, ends, weights, nodes))?;
     check_graph_rows(s, ends, weights)
 }
 
@@ -48,16 +43,10 @@ pub(crate) fn check_listing(
     weights: &[f64],
     nodes: usize,
     labels: usize,
-) -> Verdict
+) -> Result<(), Refusal>
     ensures { result ≡ verdict (listing_tests (graph s ends.now weights.now) nodes labels) }
 {
-    let counts = check_counts(s);
-    if let Verdict::Refused(r) = counts {
-        return Verdict::Refused(r);
-    }
-    let lengths = check_lengths(listing_fits(s, ends, weights, nodes, labels));
-    if let Verdict::Refused(r) = lengths {
-        return Verdict::Refused(r);
-    }
+    check_counts(s)?;
+    check_lengths(listing_fits(s, ends, weights, nodes, labels))?;
     check_graph_rows(s, ends, weights)
 }

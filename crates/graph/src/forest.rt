@@ -63,25 +63,22 @@ pub(crate) fn join(parents: &mut [usize], a: usize, b: usize)
 pub(crate) fn make_singletons(parents: &mut [usize])
     ensures { Singletons parents.new }
 {
-    let mut i = 0usize;
-    while i < parents.len() {
-        parents[i] = i;
-        i += 1;
+    for (i, parent) in parents.iter_mut().enumerate() {
+        *parent = i;
     }
 }
 
 // Whether each of n cameras has camera 0 as its root (the last line of the Rust's `active_graph_is_connected`).
+#[tactic(auto, unfolding(crate::specs::inner::Forest::RootsZero))]
 pub(crate) fn all_roots_zero(n: usize, parents: &mut [usize]) -> bool
     requires forest { Forest parents.old }
     requires n_in_bounds { n ≤ length parents.old }
     ensures { Decides result (RootsZero parents.old n) }
 {
-    let mut c = 0usize;
-    while c < n {
+    for c in 0..n {
         if root(parents, c) != 0 {
             return false;
         }
-        c += 1;
     }
     true
 }
@@ -94,14 +91,11 @@ pub(crate) fn list_labels(parents: &mut [usize], labels: &mut [usize]) -> usize
     ensures value { result ≡ distinct labels.new }
 {
     let mut count = 0usize;
-    let mut c = 0usize;
-    while c < labels.len() {
-        let label = root(parents, c);
-        labels[c] = label;
-        if label == c {
+    for (c, label) in labels.iter_mut().enumerate() {
+        *label = root(parents, c);
+        if *label == c {
             count += 1;
         }
-        c += 1;
     }
     count
 }

@@ -1,5 +1,6 @@
 -- Any sections that are put together pass 20 and 21, and an image that passes them is put together from its sections.
 -- (Over any version and any number of sections.) Assumes nothing.
+use Rattle.std.proofs.Common.{None}
 use Prim.Native.Nat.{ℕ, zero, suc, ◌+◌, ◌-◌, ◌*◌, ◌≤◌, ◌<◌}
 use mathlib.Core.Path.{◌≡◌, refl, sym, ap, ap₂, ◌∙◌}
 use mathlib.Core.List.{List, [], ◌∷◌, ◌++◌, map, append_assoc}
@@ -9,7 +10,6 @@ use native.Mathlib.Nat.{add-zero, add_assoc}
 use lib.ListN.{length, get_or, take, drop, length-append, take-append-drop}
 use lib.Seq.{take_all, drop-drop, drop-length}
 use borrow.Author.Tests.{le-ltb, eq-eqb}
-use Rattle.field.specs.declared.Place.TheVariants.{Nowhere}
 use Rattle.field.specs.Buffer.{part}
 use Rattle.field.proofs.Counting.{lowest-none}
 use Rattle.field.proofs.Buffers.{length_part}
@@ -79,7 +79,7 @@ module _ (v : ℕ) (ls : List (List ℕ)) (small : head_size (length (map length
   assembled-head h k =
       rw (le-ltb (length (assembled v ls)) (head_size (length (map length ls))) (omega (arith, length-assembled)), eq-eqb _ _ (assembled-version h), eq-eqb _ _ (assembled-count k))
 
-  pub assembled-pairs : bad_pair (length (map length ls)) (assembled v ls) ≡ Nowhere
+  pub assembled-pairs : bad_pair (length (map length ls)) (assembled v ls) ≡ None
   unfolding bad_offset
   assembled-pairs =
       let ns = map length ls in
@@ -100,7 +100,7 @@ abbrev pub cut : List ℕ → ℕ → ℕ → List (List ℕ)
 cut l i zero = []
 cut l i (suc j) = part l (offset_at l i) (length_at l i) ∷ cut l (suc i) j
 
-module _ (v k : ℕ) (l : List ℕ) (bytes : AreBytes l) (head_ok : bad_head v k l ≡ false) (pair : bad_pair k l ≡ Nowhere) where
+module _ (v k : ℕ) (l : List ℕ) (bytes : AreBytes l) (head_ok : bad_head v k l ≡ false) (pair : bad_pair k l ≡ None) where
   section-length : (i : ℕ) → i < k → length (part l (offset_at l i) (length_at l i)) ≡ length_at l i
   section-length i h =
       length_part l (offset_at l i) (length_at l i)

@@ -1,5 +1,7 @@
 -- The rows and points of an image, read where they stand: what 4, 5 and 7 say there is what they say of the lists that are read. Assumes nothing.
-use Prim.Native.Nat.{ℕ, ◌+◌, ◌*◌, ◌/◌, ◌%◌, ◌^◌, ◌<◌, ◌≤◌}
+use Rattle.std.proofs.Math.Bool.{and_assoc, or_assoc}
+use Rattle.std.proofs.Common.{Option, Some}
+use Prim.Native.Nat.{ℕ, zero, suc, ◌+◌, ◌*◌, ◌/◌, ◌%◌, ◌^◌, ◌<◌, ◌≤◌}
 use mathlib.Core.Path.{◌≡◌, refl, sym, ap, ap₂, ◌∙◌}
 use mathlib.Core.List.{List, [], ◌∷◌}
 use mathlib.Core.Bool.{Bool, true, false, cond, not, ◌&&◌, ◌||◌, true≢false}
@@ -17,8 +19,6 @@ use Rattle.double.specs.Double.{sorted, decoded}
 use Rattle.field.specs.declared.Vec3.{Vec3}
 use Rattle.field.specs.Vec.{null, is_finite}
 use Rattle.field.specs.Buffer.{get, vector}
-use Rattle.field.specs.declared.Place.{Place}
-use Rattle.field.specs.declared.Place.TheVariants.{At}
 use Rattle.field.specs.Count.{lowest}
 use Rattle.field.proofs.Counting.{get_or-field, length-field}
 use Rattle.field.proofs.Buffers.{get-vector}
@@ -120,14 +120,13 @@ module _ (p : ℕ) (s : Shape) (l : List ℕ) (r : ℕ) {a b : ℕ} (ea : a ≡ 
       let e : spread p 48 4 2 (2 * r + 1) ≡ p + 48 * r + 4 = omega arith in
       whole-read p 48 2 (2 * rows s) (2 * r + 1) l (omega arith) ∙ ap (u32_at l) e ∙ sym eb
 
-  pub strays-is : {x : Bool} {d : ℕ} → x ≡ (leb s.cameras a || leb d b) → d ≡ cond (ltb r s.bearings) s.points s.cameras →
-      x ≡ strays s.cameras s.points s.bearings (ends_from p (rows s) l) r
+  pub strays-is : {d : ℕ} → d ≡ cond (ltb r s.bearings) s.points s.cameras → (leb s.cameras a || leb d b) ≡ strays s.cameras s.points s.bearings (ends_from p (rows s) l) r
   unfolding strays
-  strays-is e f = rw (first, second, ← f) e
+  strays-is f = rw (first, second, ← f)
 
-  pub loops_is : {x : Bool} → x ≡ (leb s.bearings r && eqb a b) → x ≡ loops s.bearings (ends_from p (rows s) l) r
+  pub loops_is : (leb s.bearings r && eqb a b) ≡ loops s.bearings (ends_from p (rows s) l) r
   unfolding loops
-  loops_is e = rw (first, second) e
+  loops_is = rw (first, second)
 
 -- ---- 7: one number to a row, or three
 
@@ -173,36 +172,44 @@ vector-bad start stride n i p l h e = ap (λ v. not (is_finite v)) (vector-read 
 one-vector : (p : ℕ) (l : List ℕ) → bad_vector (points_from p 1 l) 0 ≡ not (is_finite (vector_at l p))
 one-vector p l = vector-bad p 24 1 0 p l (omega arith) (omega arith)
 
-pub vector-is : (p : ℕ) (l : List ℕ) {x a b d : Bool} → x ≡ (a && (b && d)) → a ≡ finite (double_at l p) → b ≡ finite (double_at l (p + 8)) → d ≡ finite (double_at l (p + 16)) →
-    not x ≡ bad_vector (points_from p 1 l) 0
+pub vector-is : (p : ℕ) (l : List ℕ) {a b d : Bool} → a ≡ finite (double_at l p) → b ≡ finite (double_at l (p + 8)) → d ≡ finite (double_at l (p + 16)) →
+    not (a && b && d) ≡ bad_vector (points_from p 1 l) 0
 unfolding is_finite
-vector-is p l h e f g = ap not h ∙ rw (e, f, g) (sym (one-vector p l))
+vector-is p l e f g = rw (and_assoc, e, f, g) (sym (one-vector p l))
 
-pub point-is : (p m i : ℕ) (l : List ℕ) {x : Bool} → x ≡ bad_vector (points_from (p + 24 * i) 1 l) 0 → i < m → x ≡ bad_vector (points_from p m l) i
-point-is p m i l e h = e ∙ one-vector (p + 24 * i) l ∙ sym (vector-bad p 24 m i (p + 24 * i) l h refl)
+-- properties that agree below n have one lowest place there
+lowest-alike : (p q : ℕ → Bool) (n : ℕ) → ((k : ℕ) → k < n → p k ≡ q k) → lowest p n ≡ lowest q n
+unfolding lowest
+lowest-alike p q zero h = refl
+lowest-alike p q (suc n) h = rw (lowest-alike p q n (λ k l. h k (omega arith)), h n (omega arith))
+
+-- the lowest point that is not finite, where each is read by itself
+pub points-apart : (p m : ℕ) (l : List ℕ) → lowest (λ i. bad_vector (points_from (p + 24 * i) 1 l) 0) m ≡ lowest (bad_vector (points_from p m l)) m
+points-apart p m l = lowest-alike _ _ m (λ i h. one-vector (p + 24 * i) l ∙ sym (vector-bad p 24 m i (p + 24 * i) l h refl))
 
 -- a row by itself, and as one of `count`
 row_read : (p count r : ℕ) (l : List ℕ) → r < count → bad_row_from p count l r ≡
-    bad_weight (double_at l (p + 48 * r + 32) ∷ []) 0 || (bad_scale (double_at l (p + 48 * r + 40) ∷ []) 0 || bad_vector (points_from (p + 48 * r + 8) 1 l) 0)
+    (bad_weight (double_at l (p + 48 * r + 32) ∷ []) 0 || bad_scale (double_at l (p + 48 * r + 40) ∷ []) 0 || bad_vector (points_from (p + 48 * r + 8) 1 l) 0)
 unfolding bad_row
 row_read p count r l h =
     let a : p + 32 + 48 * r ≡ p + 48 * r + 32 = omega arith in
     let b : p + 40 + 48 * r ≡ p + 48 * r + 40 = omega arith in
-    ap₂ ◌||◌
+    rw or_assoc (ap₂ ◌||◌
     (weight-read (p + 32) 48 count r l h ∙ ap (λ t. bad_weight (double_at l t ∷ []) 0) a)
     (ap₂ ◌||◌
     (scale-read (p + 40) 48 count r l h ∙ ap (λ t. bad_scale (double_at l t ∷ []) 0) b)
-    (vector-bad (p + 8) 48 count r (p + 48 * r + 8) l h (omega arith) ∙ sym (one-vector (p + 48 * r + 8) l)))
+    (vector-bad (p + 8) 48 count r (p + 48 * r + 8) l h (omega arith) ∙ sym (one-vector (p + 48 * r + 8) l))))
 
-pub one-row-is : (p : ℕ) (l : List ℕ) {x y a b d : Bool} → x ≡ (a || y) → y ≡ (b || d) →
-    a ≡ bad_weight (double_at l (p + 32) ∷ []) 0 → b ≡ bad_scale (double_at l (p + 40) ∷ []) 0 → d ≡ bad_vector (points_from (p + 8) 1 l) 0 → x ≡ bad_row_from p 1 l 0
-one-row-is p l h k e f g =
+pub one-row-is : (p : ℕ) (l : List ℕ) {a b d : Bool} →
+    a ≡ bad_weight (double_at l (p + 32) ∷ []) 0 → b ≡ bad_scale (double_at l (p + 40) ∷ []) 0 → d ≡ bad_vector (points_from (p + 8) 1 l) 0 → (a || b || d) ≡ bad_row_from p 1 l 0
+one-row-is p l e f g =
     let q : p + 48 * 0 ≡ p = omega arith in
-    h ∙ rw (k, e, f, g) (sym (rw q at (row_read p 1 0 l (omega arith))))
+    rw (e, f, g) (sym (rw q at (row_read p 1 0 l (omega arith))))
 
-pub row_is : (p count r : ℕ) (l : List ℕ) {x : Bool} → x ≡ bad_row_from (p + 48 * r) 1 l 0 → r < count → x ≡ bad_row_from p count l r
-row_is p count r l e h = e ∙ sym (one-row-is (p + 48 * r) l refl refl refl refl refl) ∙ sym (row_read p count r l h)
+-- the lowest row outside the domain, where each is read by itself
+pub rows-apart : (p count : ℕ) (l : List ℕ) → lowest (λ r. bad_row_from (p + 48 * r) 1 l 0) count ≡ lowest (bad_row_from p count l) count
+rows-apart p count l = lowest-alike _ _ count (λ r h. sym (one-row-is (p + 48 * r) l refl refl refl) ∙ sym (row_read p count r l h))
 
 -- the running place of a point does not wrap
-pub place-fits : (p : ℕ → Bool) (m : ℕ) {x : Place} {i : ℕ} (at count n : ℕ) → x ≡ lowest p m → x ≡ At i → at + 48 * count + 24 * m ≤ n → n < 2 ^ 64 → Fits w64 (count + i)
+pub place-fits : (p : ℕ → Bool) (m : ℕ) {x : Option ℕ} {i : ℕ} (at count n : ℕ) → x ≡ lowest p m → x ≡ Some i → at + 48 * count + 24 * m ≤ n → n < 2 ^ 64 → Fits w64 (count + i)
 place-fits p m at count n e h a b = omega (arith, found_below p m e h)

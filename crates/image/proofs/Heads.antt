@@ -1,4 +1,6 @@
 -- Laws of an image's head: what each test says, and what the pairs say where 21 passes. Assumes nothing.
+use Rattle.network.specs.declared.Cause.TheVariants.{Head, Pairs}
+use Rattle.std.proofs.Common.{None, Ok, Option, Some}
 use Prim.Native.Nat.{ℕ, zero, suc, ◌+◌, ◌-◌, ◌*◌, ◌≤◌, ◌<◌}
 use mathlib.Core.Path.{◌≡◌, refl, sym, ap, ap₂, ◌∙◌}
 use mathlib.Core.List.{List, [], ◌∷◌}
@@ -8,13 +10,11 @@ use native.Mathlib.Numerals.{sub-one}
 use lib.ListN.{length, get_or}
 use lib.Dec.{eqb}
 use borrow.Author.Tests.{lt-ltb, le-ltb, eq-eqb, ne_eqb, eqb-true, ltb-false, not-false}
-use Rattle.field.specs.declared.Place.{Place}
-use Rattle.field.specs.declared.Place.TheVariants.{At, Nowhere}
-use Rattle.field.specs.Count.{lowest, or_else}
+use Rattle.std.specs.Option.{option_or}
+use Rattle.field.specs.Count.{lowest}
 use Rattle.field.proofs.Counting.{none_of, lowest-zero, lowest-found}
 use Rattle.double.proofs.Truth.{neither}
-use Rattle.network.specs.declared.Verdict.{Verdict}
-use Rattle.network.specs.declared.Verdict.TheVariants.{Passed}
+use Rattle.network.specs.Refusals.{Verdict}
 use Rattle.network.specs.Refusals.{test, test_at}
 use Rattle.network.proofs.Verdicts.{test-passed, test-at-passed}
 use Rattle.network.specs.Network.{shape}
@@ -23,14 +23,14 @@ use Rattle.layout.specs.Image.{head_size, sizes}
 use Rattle.image.specs.Reading.{offset_at, length_at, start_of, shape_at}
 use Rattle.image.specs.Tests.{bad_head, bad_offset, bad_pair, bad_length}
 
-neither-place : (p q : Place) → or_else p q ≡ Nowhere → (p ≡ Nowhere) × (q ≡ Nowhere)
-neither-place (At i) q e = absurd (let z : ◌≡◌ {A = ℕ} 0 1 = cc in omega arith)
-neither-place Nowhere q e = (refl, e)
+neither-place : (p q : Option ℕ) → option_or p q ≡ None → (p ≡ None) × (q ≡ None)
+neither-place (Some i) q e = absurd (let z : ◌≡◌ {A = ℕ} 0 1 = cc in omega arith)
+neither-place None q e = (refl, e)
 
-ends-right : (i x y : ℕ) → cond (eqb x y) Nowhere (At i) ≡ Nowhere → x ≡ y
+ends-right : (i x y : ℕ) → cond (eqb x y) None (Some i) ≡ None → x ≡ y
 ends-right i x y e = go (eqb x y) refl e
   where
-    go : (b : Bool) → eqb x y ≡ b → cond b Nowhere (At i) ≡ Nowhere → x ≡ y
+    go : (b : Bool) → eqb x y ≡ b → cond b None (Some i) ≡ None → x ≡ y
     go true h f = eqb-true x y h
     go false h f = absurd (let z : ◌≡◌ {A = ℕ} 0 1 = cc in omega arith)
 
@@ -64,16 +64,16 @@ pub offset-off : (k : ℕ) (l : List ℕ) (i : ℕ) {x y : ℕ} → x ≡ offset
 unfolding bad_offset
 offset-off k l i e f = rw (e, f)
 
-module _ (k : ℕ) (l : List ℕ) {x : Place} (e : x ≡ lowest (bad_offset k l) k) where
-  pub pair-offset : (i : ℕ) → x ≡ At i → At i ≡ bad_pair k l
+module _ (k : ℕ) (l : List ℕ) {x : Option ℕ} (e : x ≡ lowest (bad_offset k l) k) where
+  pub pair-offset : (i : ℕ) → x ≡ Some i → Some i ≡ bad_pair k l
   unfolding bad_pair
   pair-offset i h = rw (sym e ∙ h)
 
-  pub pair_end : (y : ℕ) → x ≡ Nowhere → y ≡ start_of k l k → y ≡ length l → Nowhere ≡ bad_pair k l
+  pub pair_end : (y : ℕ) → x ≡ None → y ≡ start_of k l k → y ≡ length l → None ≡ bad_pair k l
   unfolding bad_pair
   pair_end y h f g = rw (sym e ∙ h, eq-eqb (start_of k l k) (length l) (sym f ∙ g))
 
-  pub pair-last : (y : ℕ) → x ≡ Nowhere → y ≡ start_of k l k → (y ≡ length l → ⊥) → At (k - 1) ≡ bad_pair k l
+  pub pair-last : (y : ℕ) → x ≡ None → y ≡ start_of k l k → (y ≡ length l → ⊥) → Some (k - 1) ≡ bad_pair k l
   unfolding bad_pair
   pair-last y h f g = rw (sym e ∙ h, ne_eqb (start_of k l k) (length l) (λ q. g (f ∙ q)))
 
@@ -85,7 +85,7 @@ length-is sizes l i e = rw e
 
 -- ---- where 21 passes
 
-module _ (k : ℕ) (l : List ℕ) (e : bad_pair k l ≡ Nowhere) where
+module _ (k : ℕ) (l : List ℕ) (e : bad_pair k l ≡ None) where
   pub offsets-right : (i : ℕ) → i < k → offset_at l i ≡ start_of k l i
   unfolding bad_offset bad_pair
   offsets-right i h = eqb-true _ _ (not-false _ (none_of (bad_offset k l) k (neither-place _ _ e).0 i h))
@@ -103,7 +103,7 @@ module _ (k : ℕ) (l : List ℕ) (e : bad_pair k l ≡ Nowhere) where
   starts-within zero i q = let z : i ≡ k = omega arith in rw z (omega (arith, last-ends))
   starts-within (suc j) i q = omega (arith, start-step i (omega arith), starts-within j (suc i) (omega arith))
 
-pub four-pairs : (l : List ℕ) → bad_pair 4 l ≡ Nowhere → length l ≡ 36 + (length_at l 0 + (length_at l 1 + (length_at l 2 + length_at l 3)))
+pub four-pairs : (l : List ℕ) → bad_pair 4 l ≡ None → length l ≡ 36 + (length_at l 0 + (length_at l 1 + (length_at l 2 + length_at l 3)))
 four-pairs l e =
     let step = start-step 4 l e in
     omega (arith, start_first 4 l 0 refl, step 0 (omega arith), step 1 (omega arith), step 2 (omega arith), step 3 (omega arith), last-ends 4 l e)
@@ -111,16 +111,16 @@ four-pairs l e =
 pub shape_is : (p : ℕ) (l : List ℕ) {n m b e : ℕ} → n ≡ u32_at l p → m ≡ u32_at l (p + 4) → b ≡ u32_at l (p + 8) → e ≡ u32_at l (p + 12) → shape n m b e ≡ shape_at p l
 shape_is p l h k q r = rw (h, k, q, r)
 
-pub counts-there : (l : List ℕ) → bad_pair 4 l ≡ Nowhere → {x : ℕ} → x ≡ length_at l 0 → x ≡ 16 → 52 ≤ length l
+pub counts-there : (l : List ℕ) → bad_pair 4 l ≡ None → {x : ℕ} → x ≡ length_at l 0 → x ≡ 16 → 52 ≤ length l
 counts-there l e f h = omega (arith, four-pairs l e)
 
-pub section-first : (l : List ℕ) {x : ℕ} → x ≡ length_at l 0 → (x ≡ 16 → ⊥) → At 0 ≡ lowest (bad_length (sizes (shape_at 36 l)) l) 4
+pub section-first : (l : List ℕ) {x : ℕ} → x ≡ length_at l 0 → (x ≡ 16 → ⊥) → Some 0 ≡ lowest (bad_length (sizes (shape_at 36 l)) l) 4
 unfolding bad_length
 section-first l {x} e n =
     let p = bad_length (sizes (shape_at 36 l)) l in
     sym (lowest-found p 0 4 (lowest-zero p) (ap not (ne_eqb (length_at l 0) 16 (λ q. n (e ∙ q)))) (omega arith))
 
-pub counted-sizes : (l : List ℕ) {x : Place} {m b e : ℕ} → x ≡ lowest (bad_length (16 ∷ 48 * b ∷ 48 * e ∷ 24 * m ∷ []) l) 4 →
+pub counted-sizes : (l : List ℕ) {x : Option ℕ} {m b e : ℕ} → x ≡ lowest (bad_length (16 ∷ 48 * b ∷ 48 * e ∷ 24 * m ∷ []) l) 4 →
     m ≡ u32_at l 40 → b ≡ u32_at l 44 → e ≡ u32_at l 48 → x ≡ lowest (bad_length (sizes (shape_at 36 l)) l) 4
 counted-sizes l h e f g = h ∙ rw (e, f, g)
 
@@ -132,8 +132,8 @@ head-long version k l e =
     (ltb-false _ _ a.0, eqb-true _ _ (not-false _ b.0), eqb-true _ _ (not-false _ b.1))
 
 -- a function that made test 20, or 21, and goes on
-pub head_passed : (version k n : ℕ) (l : List ℕ) {x : Verdict} {b : Bool} → x ≡ test 20 b → x ≡ Passed → b ≡ bad_head version k l → head_size k ≡ n → n ≤ length l
-head_passed version k n l e h q f = omega (arith, (head-long version k l (sym q ∙ test-passed 20 _ (sym e ∙ h))).0)
+pub head_passed : (version k n : ℕ) (l : List ℕ) {x : Verdict} {b : Bool} → x ≡ test Head b → x ≡ Ok tt → b ≡ bad_head version k l → head_size k ≡ n → n ≤ length l
+head_passed version k n l e h q f = omega (arith, (head-long version k l (sym q ∙ test-passed Head _ (sym e ∙ h))).0)
 
-pub pairs-passed : (k : ℕ) (l : List ℕ) {x : Verdict} {p : Place} → x ≡ test_at 21 p → x ≡ Passed → p ≡ bad_pair k l → bad_pair k l ≡ Nowhere
-pairs-passed k l e h q = sym q ∙ test-at-passed 21 _ (sym e ∙ h)
+pub pairs-passed : (k : ℕ) (l : List ℕ) {x : Verdict} {p : Option ℕ} → x ≡ test_at Pairs p → x ≡ Ok tt → p ≡ bad_pair k l → bad_pair k l ≡ None
+pairs-passed k l e h q = sym q ∙ test-at-passed Pairs _ (sym e ∙ h)

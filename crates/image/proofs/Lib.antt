@@ -1,4 +1,3 @@
-pub mod Searches
 pub mod Heads
 pub mod Domain
 pub mod Fills

@@ -1,4 +1,6 @@
 -- What the calls know where their tests refuse nothing, and what they then answer. Assumes nothing.
+use Rattle.network.specs.declared.Cause.TheVariants.{Head, Pairs, Room, Section}
+use Rattle.std.proofs.Common.{Err, None, Ok, Some}
 use Prim.Native.Nat.{ℕ, zero, suc, ◌+◌, ◌*◌, ◌/◌, ◌%◌, ◌≤◌, ◌<◌}
 use mathlib.Core.Path.{◌≡◌, refl, sym, ap, ◌∙◌}
 use mathlib.Core.List.{List, [], ◌++◌}
@@ -12,13 +14,11 @@ use lib.Dec.{ltb}
 use lib.Ieee.{Float, nan}
 use lib.Ieee.Scale.{finite}
 use borrow.Author.Tests.{eqb-true, ltb-false, not-false}
-use Rattle.field.specs.declared.Place.TheVariants.{At, Nowhere}
 use Rattle.field.specs.Vec.{Axis, X, Y, Z, on}
 use Rattle.field.specs.Buffer.{get, vector, write}
 use Rattle.field.proofs.Counting.{none_of}
 use Rattle.field.proofs.Buffers.{get-vector}
-use Rattle.network.specs.declared.Verdict.{Verdict}
-use Rattle.network.specs.declared.Verdict.TheVariants.{Refused, Passed}
+use Rattle.network.specs.Refusals.{Verdict}
 use Rattle.network.specs.declared.Refusal.{Refusal}
 use Rattle.network.specs.declared.Shape.{Shape}
 use Rattle.network.specs.Network.{rows}
@@ -30,8 +30,6 @@ use Rattle.layout.specs.Bytes.{AreBytes, AreDoubles}
 use Rattle.layout.specs.Image.{Content, content, sizes, image}
 use Rattle.layout.proofs.Runs.{length-image}
 use Rattle.layout.proofs.Stores.{image-front}
-use Rattle.image.specs.declared.Counted.TheVariants.{Refused as NoCounts, Of}
-use Rattle.image.specs.declared.Written.TheVariants.{Refused as NotWritten, Bytes}
 use Rattle.image.specs.Reading.{length_at, shape_at, rays_from, weights_from, scales_from, points_from, content_from, content_of}
 use Rattle.image.specs.Tests.{bad_length, image_tests, content_fits, content_sections, row_tests, shorter, room_tests, counts_tests, read_tests, write_tests}
 use Rattle.image.specs.Calls.{counts_if, written_if, after, counts_of, Lists, lists, content_with, read_verdict, Reads, HoldsDoubles, write_verdict, Writes}
@@ -41,22 +39,22 @@ use Rattle.image.proofs.Domain.{double-read}
 
 -- ---- 20 to 22
 
-pub image-sound : (l : List ℕ) → verdict (image_tests l) ≡ Passed → ImageSound l
+pub image-sound : (l : List ℕ) → verdict (image_tests l) ≡ Ok tt → ImageSound l
 unfolding image_tests bad_length
 image-sound l e =
     let a = first-passed _ _ e in
     let b = first-passed _ _ a.1 in
-    let p = test-at-passed 21 _ b.0 in
-    let q = test-at-passed 22 _ (sym (verdict-one _) ∙ b.1) in
+    let p = test-at-passed Pairs _ b.0 in
+    let q = test-at-passed Section _ (sym (verdict-one _) ∙ b.1) in
     let n : (i : ℕ) → i < 4 → length_at l i ≡ get_or (sizes (shape_at 36 l)) i 0 = λ i k. eqb-true _ _ (not-false _ (none_of _ 4 q i k)) in
     record {
-      head = test-passed 20 _ a.0;
+      head = test-passed Head _ a.0;
       pairs = p;
       lengths = n;
       size = omega (arith, four-pairs l p, n 0 (omega arith), n 1 (omega arith), n 2 (omega arith), n 3 (omega arith));
     }
 
-module _ (l : List ℕ) {x : Verdict} (e : x ≡ verdict (image_tests l)) (h : x ≡ Passed) where
+module _ (l : List ℕ) {x : Verdict} (e : x ≡ verdict (image_tests l)) (h : x ≡ Ok tt) where
   pub image-long : 52 ≤ length l
   image-long = omega (arith, (image-sound l (sym e ∙ h)).size)
 
@@ -94,7 +92,7 @@ vectors-finite v n f k h = rw e (go (k % 3) (omega arith))
     go (suc (suc zero)) q = rw (get-vector v (3 * (k / 3))) at (at Z)
     go (suc (suc (suc j))) q = absurd (omega arith)
 
-pub content-readable : (p : ℕ) (s : Shape) (l : List ℕ) → verdict (row_tests (content_from p s l)) ≡ Passed → p + 48 * rows s + 24 * s.points ≤ length l → ContentReadable p s l
+pub content-readable : (p : ℕ) (s : Shape) (l : List ℕ) → verdict (row_tests (content_from p s l)) ≡ Ok tt → p + 48 * rows s + 24 * s.points ≤ length l → ContentReadable p s l
 unfolding row_tests content_from
 content-readable p s l e h =
     let r = rows s in
@@ -114,28 +112,28 @@ content-readable p s l e h =
 
 -- ---- the counts
 
-pub counted-sound : (l : List ℕ) → verdict (counts_tests l) ≡ Passed → ImageSound l × ShapeSound (shape_at 36 l)
+pub counted-sound : (l : List ℕ) → verdict (counts_tests l) ≡ Ok tt → ImageSound l × ShapeSound (shape_at 36 l)
 unfolding counts_tests
 counted-sound l e = let a = stage-passed (image_tests l) _ e in (image-sound l a.0, counts-sound _ a.1)
 
 module _ (l : List ℕ) {x : Verdict} (e : x ≡ verdict (counts_tests l)) where
-  pub counted-long : x ≡ Passed → 52 ≤ length l
+  pub counted-long : x ≡ Ok tt → 52 ≤ length l
   counted-long h = omega (arith, (counted-sound l (sym e ∙ h)).0.size)
 
-  pub counts-refused : {r : Refusal} → x ≡ Refused r → NoCounts r ≡ counts_of l
+  pub counts-refused : {r : Refusal} → x ≡ Err r → Err r ≡ counts_of l
   unfolding counts_of counts_if
   counts-refused h = rw (sym e ∙ h)
 
-  pub counts-passed : {s : Shape} → x ≡ Passed → s ≡ shape_at 36 l → Of s ≡ counts_of l
+  pub counts-passed : {s : Shape} → x ≡ Ok tt → s ≡ shape_at 36 l → Ok s ≡ counts_of l
   unfolding counts_of counts_if
-  counts-passed h k = rw (sym e ∙ h) (ap Of k)
+  counts-passed h k = rw (sym e ∙ h) (ap Ok k)
 
 -- ---- a read
 
 pub are-bytes : (l : List ℕ) → ((k : ℕ) → Fits w8 (get_or l k 0)) → AreBytes l
 are-bytes l f k = omega (arith, f k)
 
-pub read-sound : (l : List ℕ) (lent : Lists) → read_verdict l lent ≡ Passed → ReadSound l lent
+pub read-sound : (l : List ℕ) (lent : Lists) → read_verdict l lent ≡ Ok tt → ReadSound l lent
 unfolding read_verdict read_tests
 read-sound l lent e =
     let a = stage-passed (image_tests l) _ e in
@@ -150,23 +148,23 @@ read-sound l lent e =
     }
 
 module _ (l es : List ℕ) (rs ws ss ps : List Float) {x : Verdict} (e : x ≡ read_verdict l (lists es rs ws ss ps)) where
-  pub read-refused : {r : Refusal} → x ≡ Refused r → AreBytes l → Reads l (lists es rs ws ss ps) (NoCounts r) (lists es rs ws ss ps)
+  pub read-refused : {r : Refusal} → x ≡ Err r → AreBytes l → Reads l (lists es rs ws ss ps) (Err r) (lists es rs ws ss ps)
   unfolding counts_if after
   read-refused {r} h b =
-      let v : read_verdict l (lists es rs ws ss ps) ≡ Refused r = sym e ∙ h in
+      let v : read_verdict l (lists es rs ws ss ps) ≡ Err r = sym e ∙ h in
       record { answer = rw v; stored = record { ends = rw v; rays = rw v; weights = rw v; scales = rw v; positions = rw v }; bytes = b }
 
-  pub read-ready : x ≡ Passed → ReadSound l (lists es rs ws ss ps)
+  pub read-ready : x ≡ Ok tt → ReadSound l (lists es rs ws ss ps)
   read-ready h = read-sound l _ (sym e ∙ h)
 
   pub read-passed : (es' : List ℕ) (rs' ws' ss' ps' : List Float) {s : Shape} →
-      x ≡ Passed → s ≡ shape_at 36 l → ContentFilled 52 s l es' rs' ws' ss' ps' → AreBytes l → Reads l (lists es rs ws ss ps) (Of s) (lists es' rs' ws' ss' ps')
+      x ≡ Ok tt → s ≡ shape_at 36 l → ContentFilled 52 s l es' rs' ws' ss' ps' → AreBytes l → Reads l (lists es rs ws ss ps) (Ok s) (lists es' rs' ws' ss' ps')
   unfolding counts_if after content_from
   read-passed es' rs' ws' ss' ps' h k f b =
-      let v : read_verdict l (lists es rs ws ss ps) ≡ Passed = sym e ∙ h in
+      let v : read_verdict l (lists es rs ws ss ps) ≡ (Ok tt) = sym e ∙ h in
       let g : ContentFilled 52 (shape_at 36 l) l es' rs' ws' ss' ps' = rw k at f in
       record {
-        answer = rw v (ap Of k);
+        answer = rw v (ap Ok k);
         stored = record { ends = rw v g.ends; rays = rw v g.rays; weights = rw v g.weights; scales = rw v g.scales; positions = rw v g.positions };
         bytes = b;
       }
@@ -185,11 +183,11 @@ pub room-is : (s : Shape) (es : List ℕ) (rs ws ss ps : List Float) (room : ℕ
     x ≡ verdict (room_tests room (length (image (content s es rs ws ss ps))))
 room-is s es rs ws ss ps room e h = e ∙ ap (λ t. verdict (room_tests room t)) (h ∙ sym (length-image (content s es rs ws ss ps)))
 
-pub room-enough : (room needed : ℕ) → verdict (room_tests room needed) ≡ Passed → needed ≤ room
+pub room-enough : (room needed : ℕ) → verdict (room_tests room needed) ≡ Ok tt → needed ≤ room
 unfolding room_tests shorter
-room-enough room needed e = go (ltb room needed) refl (test-at-passed 23 _ (sym (verdict-one _) ∙ e))
+room-enough room needed e = go (ltb room needed) refl (test-at-passed Room _ (sym (verdict-one _) ∙ e))
   where
-    go : (b : Bool) → ltb room needed ≡ b → cond b (At needed) Nowhere ≡ Nowhere → needed ≤ room
+    go : (b : Bool) → ltb room needed ≡ b → cond b (Some needed) None ≡ None → needed ≤ room
     go true h f = absurd (let z : ◌≡◌ {A = ℕ} 0 1 = cc in omega arith)
     go false h f = ltb-false room needed h
 
@@ -198,7 +196,7 @@ room-enough room needed e = go (ltb room needed) refl (test-at-passed 23 _ (sym 
 pub holds-doubles : (s : Shape) (es : List ℕ) (rs ws ss ps : List Float) → AreDoubles rs → AreDoubles ws → AreDoubles ss → AreDoubles ps → HoldsDoubles (content s es rs ws ss ps)
 holds-doubles s es rs ws ss ps a b d e = record { rays = a; weights = b; scales = d; positions = e }
 
-pub write-sound : (c : Content) (room : ℕ) → verdict (write_tests c room) ≡ Passed → WriteSound c room
+pub write-sound : (c : Content) (room : ℕ) → verdict (write_tests c room) ≡ Ok tt → WriteSound c room
 unfolding write_tests
 write-sound c room e =
     let a = stage-passed (count_tests c.shape) _ e in
@@ -208,13 +206,13 @@ write-sound c room e =
     record { counts = a.0; shape = counts-sound _ a.0; fit = lengths-fit _ b.0; ends = d.0; domain = f.0; room = room-enough _ _ f.1 }
 
 module _ (s : Shape) (es : List ℕ) (rs ws ss ps : List Float) (held : List ℕ) {x : Verdict} (e : x ≡ verdict (write_tests (content s es rs ws ss ps) (length held))) where
-  pub write-refused : {r : Refusal} → x ≡ Refused r → HoldsDoubles (content s es rs ws ss ps) → Writes (content s es rs ws ss ps) held (NotWritten r) held
+  pub write-refused : {r : Refusal} → x ≡ Err r → HoldsDoubles (content s es rs ws ss ps) → Writes (content s es rs ws ss ps) held (Err r) held
   unfolding write_verdict written_if after
   write-refused {r} h d =
-      let v : verdict (write_tests (content s es rs ws ss ps) (length held)) ≡ Refused r = sym e ∙ h in
+      let v : verdict (write_tests (content s es rs ws ss ps) (length held)) ≡ Err r = sym e ∙ h in
       record { answer = rw v; out = rw v; doubles = d }
 
-  module _ (h : x ≡ Passed) where
+  module _ (h : x ≡ Ok tt) where
     written : WriteSound (content s es rs ws ss ps) (length held)
     written = write-sound _ _ (sym e ∙ h)
 
@@ -228,9 +226,9 @@ module _ (s : Shape) (es : List ℕ) (rs ws ss ps : List Float) (held : List ℕ
     write-room = omega (arith, length-image (content s es rs ws ss ps), written.room)
 
     pub write-passed : (m : List ℕ) {k : ℕ} → m ≡ write held 0 (image (content s es rs ws ss ps)) → k ≡ 52 + 48 * rows s + 24 * s.points → HoldsDoubles (content s es rs ws ss ps) →
-        Writes (content s es rs ws ss ps) held (Bytes k) m
+        Writes (content s es rs ws ss ps) held (Ok k) m
     unfolding write_verdict written_if after
     write-passed m f g d =
         let c = content s es rs ws ss ps in
-        let v : verdict (write_tests c (length held)) ≡ Passed = sym e ∙ h in
-        record { answer = rw v (ap Bytes (g ∙ sym (length-image c))); out = rw v (image-front c held m f written.room); doubles = d }
+        let v : verdict (write_tests c (length held)) ≡ (Ok tt) = sym e ∙ h in
+        record { answer = rw v (ap Ok (g ∙ sym (length-image c))); out = rw v (image-front c held m f written.room); doubles = d }

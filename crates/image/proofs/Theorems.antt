@@ -1,4 +1,8 @@
 -- The round trips of specs/RoundTrips. Assumes nothing.
+use Rattle.std.specs.Result.{result_and}
+use Rattle.network.specs.declared.Cause.TheVariants.{Head, Lengths, Pairs, Section}
+use Rattle.std.proofs.Common.{Err, None, Ok, Result}
+use Rattle.network.specs.declared.Refusal.{Refusal}
 use Prim.Native.Nat.{ℕ, zero, suc, ◌+◌, ◌*◌, ◌/◌, ◌%◌, ◌<◌}
 use mathlib.Core.Path.{◌≡◌, refl, sym, ap, ap₂, subst, ◌∙◌}
 use mathlib.Core.List.{List, ◌++◌, map}
@@ -9,24 +13,18 @@ use lib.ListN.{length, get_or, take, drop}
 use lib.Seq.{take_at}
 use lib.Dec.{ltb}
 use borrow.Author.Tests.{eq-eqb, ltb-true, ltb-false}
-use Rattle.field.specs.declared.Place.TheVariants.{Nowhere}
 use Rattle.field.specs.Count.{lowest}
 use Rattle.field.proofs.Counting.{lowest-none}
-use Rattle.network.specs.declared.Verdict.{Verdict}
-use Rattle.network.specs.declared.Verdict.TheVariants.{Refused, Passed}
+use Rattle.network.specs.Refusals.{Verdict}
 use Rattle.network.specs.declared.Shape.{Shape}
 use Rattle.network.specs.Network.{rows}
-use Rattle.network.specs.Refusals.{and_then, verdict, count_tests, length_tests, ends_fit, rays_fit, vectors_fit, content_fits as fits, end_tests, domain_tests}
+use Rattle.network.specs.Refusals.{verdict, count_tests, length_tests, ends_fit, rays_fit, vectors_fit, content_fits as fits, end_tests, domain_tests}
 use Rattle.network.specs.inner.Sound.{ContentLengths, EndsSound}
 use Rattle.network.proofs.Verdicts.{verdict-append, verdict-one, passes-in, stage-passed, both-passed, passed-test, passed-test-at}
 use Rattle.network.proofs.Sound.{content-fits, ends-sound}
 use Rattle.layout.specs.Bytes.{AreBytes, total}
 use Rattle.layout.specs.Image.{Content, sections, head_size, sizes, image}
 use Rattle.layout.proofs.Runs.{section-lengths}
-use Rattle.image.specs.declared.Counted.{Counted}
-use Rattle.image.specs.declared.Counted.TheVariants.{Of}
-use Rattle.image.specs.declared.Written.{Written}
-use Rattle.image.specs.declared.Written.TheVariants.{Bytes}
 use Rattle.image.specs.Reading.{shape_at, content_from, content_of}
 use Rattle.image.specs.Tests.{bad_length, image_tests, content_fits, content_sections, row_tests, room_tests, read_tests, write_tests}
 use Rattle.image.specs.Calls.{counts_if, written_if, after, Lists, content_with, read_verdict, Stored, Reads, HoldsDoubles, write_verdict, Writes}
@@ -40,17 +38,16 @@ use Rattle.image.proofs.RoundTrips.{shape-back, content-back, image-back}
 -- ---- stages
 
 -- a stage that passes says nothing
-passed-before : (us vs : List Verdict) → verdict us ≡ Passed → verdict (us ++ vs) ≡ verdict vs
+passed-before : (us vs : List Verdict) → verdict us ≡ Ok tt → verdict (us ++ vs) ≡ verdict vs
 passed-before us vs e = sym (passes-in us vs refl e refl)
 
 -- nor do the stages behind, where they pass
-passed-behind : (us vs : List Verdict) → verdict vs ≡ Passed → verdict (us ++ vs) ≡ verdict us
-unfolding and_then
-passed-behind us vs e = verdict-append us vs ∙ ap (and_then (verdict us)) e ∙ go (verdict us)
+passed-behind : (us vs : List Verdict) → verdict vs ≡ Ok tt → verdict (us ++ vs) ≡ verdict us
+passed-behind us vs e = verdict-append us vs ∙ ap (result_and (verdict us)) e ∙ go (verdict us)
   where
-    go : (v : Verdict) → and_then v Passed ≡ v
-    go (Refused r) = refl
-    go Passed = refl
+    go : (v : Verdict) → result_and v (Ok tt) ≡ v
+    go (Err r) = refl
+    go (Ok tt) = refl
 
 -- ---- written, then read
 
@@ -84,16 +81,16 @@ module _ (c : Content) (n : ℕ) (W : WriteSound c n) where
       let e : total (map length (sections c)) ≡ 16 + (48 * c.shape.bearings + (48 * c.shape.directions + (24 * c.shape.points + 0))) = ap total (section-lengths c) in
       omega arith
 
-  lengths-back : lowest (bad_length (sizes (shape_at 36 (image c))) (image c)) 4 ≡ Nowhere
+  lengths-back : lowest (bad_length (sizes (shape_at 36 (image c))) (image c)) 4 ≡ None
   unfolding bad_length image
   lengths-back =
       let e = section-lengths c ∙ ap sizes (sym (shape-back c W.shape)) in
       lowest-none _ 4 (λ i h. ap not (eq-eqb _ _ (assembled-length 1 (sections c) image-small i h ∙ ap (λ t. get_or t i 0) e)))
 
-  image-accepted : verdict (image_tests (image c)) ≡ Passed
-  unfolding image_tests verdict and_then image
+  image-accepted : verdict (image_tests (image c)) ≡ Ok tt
+  unfolding image_tests verdict image
   image-accepted =
-      rw (passed-test 20 (assembled-head 1 (sections c) image-small (omega arith) (omega arith)), passed-test-at 21 (assembled-pairs 1 (sections c) image-small), passed-test-at 22 lengths-back) refl
+      rw (passed-test Head (assembled-head 1 (sections c) image-small (omega arith) (omega arith)), passed-test-at Pairs (assembled-pairs 1 (sections c) image-small), passed-test-at Section lengths-back) refl
 
   module _ (hold : HoldsDoubles c) where
     -- a network that is written reads back the same
@@ -122,15 +119,15 @@ fits-back l =
     (ap₂ ◌&&◌ (eq-eqb _ _ (length-doubles-from 60 48 3 (3 * r) l)) (eq-eqb _ _ (length-doubles-from 92 48 1 r l)))
     (eq-eqb _ _ (length-doubles-from (52 + 48 * r) 24 3 (3 * m) l)))
 
-lengths-passed : (b : Bool) → b ≡ true → verdict (length_tests b) ≡ Passed
+lengths-passed : (b : Bool) → b ≡ true → verdict (length_tests b) ≡ Ok tt
 unfolding length_tests
-lengths-passed b e = verdict-one _ ∙ passed-test 3 (ap not e)
+lengths-passed b e = verdict-one _ ∙ passed-test Lengths (ap not e)
 
 shape_of : (l : List ℕ) → (content_of l).shape ≡ shape_at 36 l
 unfolding content_from
 shape_of l = refl
 
-module _ (l : List ℕ) (lent : Lists) (bytes : AreBytes l) (ok : read_verdict l lent ≡ Passed) where
+module _ (l : List ℕ) (lent : Lists) (bytes : AreBytes l) (ok : read_verdict l lent ≡ Ok tt) where
   -- an image that is read writes back to its own bytes
   read_back : image (content_of l) ≡ l
   unfolding read_verdict read_tests
@@ -157,28 +154,28 @@ module _ (l : List ℕ) (lent : Lists) (bytes : AreBytes l) (ok : read_verdict l
 
 -- ---- the calls
 
-counts-answer : (v : Verdict) (s : Shape) {x : Shape} → Of x ≡ counts_if v s → (v ≡ Passed) × (x ≡ s)
+counts-answer : (v : Verdict) (s : Shape) {x : Shape} → Ok x ≡ counts_if v s → (v ≡ Ok tt) × (x ≡ s)
 unfolding counts_if
-counts-answer (Refused r) s e = absurd (let z : ◌≡◌ {A = ℕ} 0 1 = cc in omega arith)
-counts-answer Passed s {x} e = let q : x ≡ s = cc in (refl, q)
+counts-answer (Err r) s e = absurd (let z : ◌≡◌ {A = ℕ} 0 1 = cc in omega arith)
+counts-answer (Ok tt) s {x} e = let q : x ≡ s = cc in (refl, q)
 
-written-answer : (v : Verdict) (n : ℕ) {k : ℕ} → Bytes k ≡ written_if v n → (v ≡ Passed) × (k ≡ n)
+written-answer : (v : Verdict) (n : ℕ) {k : ℕ} → Ok k ≡ written_if v n → (v ≡ Ok tt) × (k ≡ n)
 unfolding written_if
-written-answer (Refused r) n e = absurd (let z : ◌≡◌ {A = ℕ} 0 1 = cc in omega arith)
-written-answer Passed n {k = k} e = let q : k ≡ n = cc in (refl, q)
+written-answer (Err r) n e = absurd (let z : ◌≡◌ {A = ℕ} 0 1 = cc in omega arith)
+written-answer (Ok tt) n {k = k} e = let q : k ≡ n = cc in (refl, q)
 
-after-passed : {A : Type 0} (v : Verdict) (held new : List A) → v ≡ Passed → after v held new ≡ new
+after-passed : {A : Type 0} (v : Verdict) (held new : List A) → v ≡ Ok tt → after v held new ≡ new
 unfolding after
 after-passed v held new e = rw e
 
 -- the lists that a call stored
-stored-content : (v : Verdict) (lent left : Lists) (c : Content) → v ≡ Passed → Stored v lent c left → content_with c.shape left ≡ c
+stored-content : (v : Verdict) (lent left : Lists) (c : Content) → v ≡ Ok tt → Stored v lent c left → content_with c.shape left ≡ c
 unfolding after
 stored-content v lent left c e S =
-    let T : Stored Passed lent c left = rw e at S in
+    let T : Stored (Ok tt) lent c left = rw e at S in
     rw (T.ends, T.rays, T.weights, T.scales, T.positions) refl
 
-written_read : (c : Content) (held out : List ℕ) (k : ℕ) (lent left : Lists) (r : Counted) → Writes c held (Bytes k) out → Reads (take k out) lent r left → ReadsBack c lent r left
+written_read : (c : Content) (held out : List ℕ) (k : ℕ) (lent left : Lists) (r : Result Shape Refusal) → Writes c held (Ok k) out → Reads (take k out) lent r left → ReadsBack c lent r left
 unfolding write_verdict read_verdict
 written_read c held out k lent left r w reads =
     let t = written-answer _ _ w.answer in
@@ -194,7 +191,7 @@ written_read c held out k lent left r w reads =
           (subst (λ x. Stored x lent (content_of (image c)) left) v g.stored);
     }
 
-read-written : (l : List ℕ) (lent left : Lists) (s : Shape) (held out : List ℕ) (r : Written) → Reads l lent (Of s) left → Writes (content_with s left) held r out → WritesBack l held r out
+read-written : (l : List ℕ) (lent left : Lists) (s : Shape) (held out : List ℕ) (r : Result ℕ Refusal) → Reads l lent (Ok s) left → Writes (content_with s left) held r out → WritesBack l held r out
 unfolding write_verdict
 read-written l lent left s held out r reads w =
     let t = counts-answer _ _ reads.answer in

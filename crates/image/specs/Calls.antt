@@ -1,36 +1,33 @@
 -- What the public calls answer and leave (document 01, 'Refused calls': a refusal leaves every buffer untouched).
+use Rattle.std.specs.Prelude.{Err, Ok, Result}
+use Rattle.network.specs.declared.Refusal.{Refusal}
 use Rattle.std.specs.Prelude.{ℕ, ◌≡◌, List, ◌++◌, length, drop, Float}
-use Rattle.network.specs.declared.Verdict.{Verdict}
-use Rattle.network.specs.declared.Verdict.TheVariants.{Refused, Passed}
+use Rattle.network.specs.Refusals.{Verdict}
 use Rattle.network.specs.declared.Shape.{Shape}
 use Rattle.network.specs.Refusals.{verdict}
-use Rattle.image.specs.declared.Counted.{Counted}
-use Rattle.image.specs.declared.Counted.TheVariants.{Refused as NoCounts, Of}
-use Rattle.image.specs.declared.Written.{Written}
-use Rattle.image.specs.declared.Written.TheVariants.{Refused as NotWritten, Bytes}
 use Rattle.layout.specs.Bytes.{AreBytes, AreDoubles}
 use Rattle.layout.specs.Image.{Content, content, image}
 use Rattle.image.specs.Reading.{shape_at, content_of}
 use Rattle.image.specs.Tests.{content_fits, counts_tests, read_tests, write_tests}
 
 -- the refusal, or else the counts
-unfoldable pub counts_if : Verdict → Shape → Counted
-counts_if (Refused r) s = NoCounts r
-counts_if Passed s = Of s
+unfoldable pub counts_if : Verdict → Shape → Result Shape Refusal
+counts_if (Err r) s = Err r
+counts_if (Ok tt) s = Ok s
 
 -- the refusal, or else how many bytes were written
-unfoldable pub written_if : Verdict → ℕ → Written
-written_if (Refused r) k = NotWritten r
-written_if Passed k = Bytes k
+unfoldable pub written_if : Verdict → ℕ → Result ℕ Refusal
+written_if (Err r) k = Err r
+written_if (Ok tt) k = Ok k
 
 -- a lent buffer after a call: what it held where the call was refused, else the new list
 unfoldable pub after {ℓ} : {A : Type ℓ} → Verdict → List A → List A → List A
-after (Refused r) held new = held
-after Passed held new = new
+after (Err r) held new = held
+after (Ok tt) held new = new
 
 -- ---- the counts
 
-unfoldable pub counts_of : List ℕ → Counted
+unfoldable pub counts_of : List ℕ → Result Shape Refusal
 counts_of l = counts_if (verdict (counts_tests l)) (shape_at 36 l)
 
 -- ---- the reader
@@ -69,7 +66,7 @@ pub record Stored (v : Verdict) (lent : Lists) (c : Content) (left : Lists) : Ty
   pub positions : left.positions ≡ after v lent.positions c.positions
 
 -- the image l, read into `lent`, gives the answer r and leaves `left`
-pub record Reads (l : List ℕ) (lent : Lists) (r : Counted) (left : Lists) : Type 0 where
+pub record Reads (l : List ℕ) (lent : Lists) (r : Result Shape Refusal) (left : Lists) : Type 0 where
   pub answer : r ≡ counts_if (read_verdict l lent) (shape_at 36 l)
   pub stored : Stored (read_verdict l lent) lent (content_of l) left
   -- (true of what is lent, a slice of u8)
@@ -89,7 +86,7 @@ unfoldable pub write_verdict : Content → List ℕ → Verdict
 write_verdict c held = verdict (write_tests c (length held))
 
 -- the content c, written to `held`, gives the answer r and leaves `left`: the image at the front, the bytes after it as they were
-pub record Writes (c : Content) (held : List ℕ) (r : Written) (left : List ℕ) : Type 0 where
+pub record Writes (c : Content) (held : List ℕ) (r : Result ℕ Refusal) (left : List ℕ) : Type 0 where
   pub answer : r ≡ written_if (write_verdict c held) (length (image c))
   pub out : left ≡ after (write_verdict c held) held (image c ++ drop (length (image c)) held)
   -- (true of what is lent, slices of f64)

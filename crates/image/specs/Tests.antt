@@ -1,9 +1,10 @@
 -- What reader and writer refuse (document 01, 'Refused calls' 20 to 23, with 1 to 5 and 7).
+use Rattle.network.specs.declared.Cause.TheVariants as cause
+use Rattle.std.specs.Prelude.{None, Option, Some}
 use Rattle.std.specs.Prelude.{ℕ, ◌-◌, List, [], ◌∷◌, ◌++◌, Bool, cond, not, ◌||◌, length, get_or, eqb, ltb}
-use Rattle.field.specs.declared.Place.{Place}
-use Rattle.field.specs.declared.Place.TheVariants.{At, Nowhere}
-use Rattle.field.specs.Count.{lowest, or_else}
-use Rattle.network.specs.declared.Verdict.{Verdict}
+use Rattle.std.specs.Option.{option_or}
+use Rattle.field.specs.Count.{lowest}
+use Rattle.network.specs.Refusals.{Verdict}
 use Rattle.network.specs.Refusals.{test, test_at, Section, count_tests, content_fits as fits, length_tests, end_tests, row_sections, domain_tests}
 use Rattle.layout.specs.Bytes.{u16_at}
 use Rattle.layout.specs.Image.{Content, head_size, sizes, image}
@@ -20,8 +21,8 @@ unfoldable pub bad_offset : ℕ → List ℕ → ℕ → Bool
 bad_offset k l i = not (eqb (offset_at l i) (start_of k l i))
 
 -- 21: the first such pair, else the last pair where it does not end the image
-unfoldable pub bad_pair : ℕ → List ℕ → Place
-bad_pair k l = or_else (lowest (bad_offset k l) k) (cond (eqb (start_of k l k) (length l)) Nowhere (At (k - 1)))
+unfoldable pub bad_pair : ℕ → List ℕ → Option ℕ
+bad_pair k l = option_or (lowest (bad_offset k l) k) (cond (eqb (start_of k l k) (length l)) None (Some (k - 1)))
 
 -- section i's length differs from what it must be
 unfoldable pub bad_length : List ℕ → List ℕ → ℕ → Bool
@@ -30,9 +31,9 @@ bad_length sizes l i = not (eqb (length_at l i) (get_or sizes i 0))
 -- version 1: 20 (under 36 bytes, version not 1 or section count not 4), 21, 22
 unfoldable pub image_tests : List ℕ → List Verdict
 image_tests l =
-    test 20 (bad_head 1 4 l)
-    ∷ test_at 21 (bad_pair 4 l)
-    ∷ test_at 22 (lowest (bad_length (sizes (shape_at 36 l)) l) 4)
+    test cause.Head (bad_head 1 4 l)
+    ∷ test_at cause.Pairs (bad_pair 4 l)
+    ∷ test_at cause.Section (lowest (bad_length (sizes (shape_at 36 l)) l) 4)
     ∷ []
 
 -- ---- 1 to 5 and 7, of a content
@@ -51,11 +52,11 @@ row_tests c = end_tests c.shape c.ends ++ domain_tests (content_sections c)
 
 -- ---- 23: of so many bytes, fewer than are needed; the place is how many are needed
 
-unfoldable pub shorter : ℕ → ℕ → Place
-shorter room needed = cond (ltb room needed) (At needed) Nowhere
+unfoldable pub shorter : ℕ → ℕ → Option ℕ
+shorter room needed = cond (ltb room needed) (Some needed) None
 
 unfoldable pub room_tests : ℕ → ℕ → List Verdict
-room_tests room needed = test_at 23 (shorter room needed) ∷ []
+room_tests room needed = test_at cause.Room (shorter room needed) ∷ []
 
 -- ---- the calls: each is its stages, one after another
 

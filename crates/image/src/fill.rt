@@ -29,10 +29,8 @@ fn fill_ends(bytes: &[u8], at: usize, ends: &mut [usize])
     requires { at + 24 * length ends.old ≤ length bytes.now }
     ensures { ends.new ≡ wholes_from at 48 2 (length ends.old) bytes.now }
 {
-    let mut k = 0usize;
-    while k < ends.len() {
-        ends[k] = u32_at(bytes, at + 48 * (k / 2) + 4 * (k % 2));
-        k += 1;
+    for (k, end) in ends.iter_mut().enumerate() {
+        *end = u32_at(bytes, at + 48 * (k / 2) + 4 * (k % 2));
     }
 }
 
@@ -42,10 +40,8 @@ fn fill_doubles(bytes: &[u8], start: usize, stride: usize, group: usize, out: &m
     requires readable { Readable start stride group (length out.old) bytes.now }
     ensures { out.new ≡ doubles_from start stride group (length out.old) bytes.now }
 {
-    let mut k = 0usize;
-    while k < out.len() {
-        out[k] = value_at(bytes, start + stride * (k / group) + 8 * (k % group));
-        k += 1;
+    for (k, x) in out.iter_mut().enumerate() {
+        *x = value_at(bytes, start + stride * (k / group) + 8 * (k % group));
     }
 }
 

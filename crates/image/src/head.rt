@@ -1,16 +1,14 @@
 // 20 to 22: the head of an image.
-ghost use Rattle.std.specs.Prelude.{◌≡◌, ◌+◌, ◌*◌, ◌≤◌, ◌<◌, length};
-ghost use Rattle.field.specs.declared.Place.TheVariants.{Nowhere};
+ghost use Rattle.std.specs.Prelude.{None, ◌≡◌, ◌+◌, ◌*◌, ◌≤◌, ◌<◌, length};
 ghost use Rattle.field.specs.Count.{lowest};
 ghost use Rattle.network.specs.Refusals.{verdict};
 ghost use Rattle.layout.specs.Image.{head_size, sizes as sizes_of};
 ghost use Rattle.image.specs.Reading.{offset_at, length_at, start_of, shape_at};
 ghost use Rattle.image.specs.Tests.{bad_head, bad_offset, bad_pair, bad_length, image_tests};
 
-use field::Place;
 use layout::bytes::{u16_at, u32_at};
-use network::Verdict;
 use network::answers::{refused_at, refused_if};
+use network::{Cause, Refusal};
 
 // 20: of an image of k sections.
 fn bad_head(bytes: &[u8], version: usize, k: usize) -> bool
@@ -61,34 +59,26 @@ fn bad_offset_at(bytes: &[u8], k: usize, i: usize) -> bool
 }
 
 // The first of k pairs whose offset is not where the one before ended.
-fn find_offset(bytes: &[u8], k: usize) -> Place
+fn find_offset(bytes: &[u8], k: usize) -> Option<usize>
     requires { head_size k ≤ length bytes.now }
     ensures { result ≡ lowest (bad_offset k bytes.now) k }
 {
-    let mut i = 0usize;
-    while i < k {
-        if bad_offset_at(bytes, k, i) {
-            return Place::At(i);
-        }
-        i += 1;
-    }
-    Place::Nowhere
+    (0..k).find(|&i| bad_offset_at(bytes, k, i))
 }
 
 // 21: of an image of k sections.
-fn find_pair(bytes: &[u8], k: usize) -> Place
+fn find_pair(bytes: &[u8], k: usize) -> Option<usize>
     requires k_in_bounds { head_size k ≤ length bytes.now }
     requires le_k { 1 ≤ k }
     ensures { result ≡ bad_pair k bytes.now }
 {
-    let offset = find_offset(bytes, k);
-    if let Place::At(i) = offset {
-        return Place::At(i);
+    if let Some(i) = find_offset(bytes, k) {
+        return Some(i);
     }
     if start_of(bytes, k, k) == bytes.len() {
-        return Place::Nowhere;
+        return None;
     }
-    Place::At(k - 1)
+    Some(k - 1)
 }
 
 // Section i's length differs from what it must be.
@@ -101,22 +91,15 @@ fn bad_length_at(bytes: &[u8], sizes: &[usize], i: usize) -> bool
 }
 
 // The first section whose length differs from what it must be.
-fn find_length(bytes: &[u8], sizes: &[usize]) -> Place
+fn find_length(bytes: &[u8], sizes: &[usize]) -> Option<usize>
     requires { head_size (length sizes.now) ≤ length bytes.now }
     ensures { result ≡ lowest (bad_length sizes.now bytes.now) (length sizes.now) }
 {
-    let mut i = 0usize;
-    while i < sizes.len() {
-        if bad_length_at(bytes, sizes, i) {
-            return Place::At(i);
-        }
-        i += 1;
-    }
-    Place::Nowhere
+    (0..sizes.len()).find(|&i| bad_length_at(bytes, sizes, i))
 }
 
 // The first section whose length differs from what the counts say.
-fn find_counted_length(bytes: &[u8]) -> Place
+fn find_counted_length(bytes: &[u8]) -> Option<usize>
     requires { 52 ≤ length bytes.now }
     ensures { result ≡ lowest (bad_length (sizes_of (shape_at 36 bytes.now)) bytes.now) 4 }
 {
@@ -128,28 +111,22 @@ fn find_counted_length(bytes: &[u8]) -> Place
 }
 
 // 22.
-fn find_section(bytes: &[u8]) -> Place
+fn find_section(bytes: &[u8]) -> Option<usize>
     requires in_bounds { 36 ≤ length bytes.now }
-    requires bytes_value { bad_pair 4 bytes.now ≡ Nowhere }
+    requires bytes_value { bad_pair 4 bytes.now ≡ None }
     ensures { result ≡ lowest (bad_length (sizes_of (shape_at 36 bytes.now)) bytes.now) 4 }
 {
     if length_at(bytes, 0) != 16 {
-        return Place::At(0);
+        return Some(0);
     }
     find_counted_length(bytes)
 }
 
 // 20 to 22.
-pub(crate) fn check_image(bytes: &[u8]) -> Verdict
+pub(crate) fn check_image(bytes: &[u8]) -> Result<(), Refusal>
     ensures { result ≡ verdict (image_tests bytes.now) }
 {
-    let head = refused_if(20, bad_head(bytes, 1, 4));
-    if let Verdict::Refused(r) = head {
-        return Verdict::Refused(r);
-    }
-    let pair = refused_at(21, find_pair(bytes, 4));
-    if let Verdict::Refused(r) = pair {
-        return Verdict::Refused(r);
-    }
-    refused_at(22, find_section(bytes))
+    refused_if(Cause::Head, bad_head(bytes, 1, 4))?;
+    refused_at(Cause::Pairs, find_pair(bytes, 4))?;
+    refused_at(Cause::Section, find_section(bytes))
 }

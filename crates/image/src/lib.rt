@@ -20,23 +20,9 @@ use head::check_image;
 use layout::bytes::u32_at;
 use layout::put::put_image;
 use network::lengths::{check_lengths, content_fits};
-use network::{Refusal, Shape, Verdict, check_counts};
+use network::{Refusal, Shape, check_counts};
 use rows::check_rows;
 use writing::{check_write, image_size};
-
-// The counts of an image, or its refusal.
-#[derive(Clone, Copy)]
-pub enum Counted {
-    Refused(Refusal),
-    Of(Shape),
-}
-
-// How many bytes were written.
-#[derive(Clone, Copy)]
-pub enum Written {
-    Refused(Refusal),
-    Bytes(usize),
-}
 
 // The counts that stand at p.
 fn shape_at(bytes: &[u8], p: usize) -> Shape
@@ -52,25 +38,19 @@ fn shape_at(bytes: &[u8], p: usize) -> Shape
 }
 
 // 20 to 22, then 1 and 2.
-pub fn check_counted(bytes: &[u8]) -> Verdict
+pub fn check_counted(bytes: &[u8]) -> Result<(), Refusal>
     ensures { result ≡ verdict (counts_tests bytes.now) }
 {
-    let image = check_image(bytes);
-    if let Verdict::Refused(r) = image {
-        return Verdict::Refused(r);
-    }
+    check_image(bytes)?;
     check_counts(shape_at(bytes, 36))
 }
 
 // The counts of an image, so that a caller can lend buffers of the right size, or its refusal.
-pub fn counts(bytes: &[u8]) -> Counted
+pub fn counts(bytes: &[u8]) -> Result<Shape, Refusal>
     ensures { result ≡ counts_of bytes.now }
 {
-    let verdict = check_counted(bytes);
-    if let Verdict::Refused(r) = verdict {
-        return Counted::Refused(r);
-    }
-    Counted::Of(shape_at(bytes, 36))
+    check_counted(bytes)?;
+    Ok(shape_at(bytes, 36))
 }
 
 // 1 to 5 and 7 of an image of shape s whose rows start at `at`.
@@ -83,20 +63,14 @@ fn check_content(
     weights: &[f64],
     scales: &[f64],
     points: &[f64],
-) -> Verdict
+) -> Result<(), Refusal>
     requires { at + 48 * rows_of s + 24 * s.points ≤ length bytes.now }
     ensures { result ≡ verdict (count_tests s
         ++ (length_tests (content_fits s ends.now rays.now weights.now scales.now points.now)
         ++ row_tests (content_from at s bytes.now))) }
 {
-    let counts = check_counts(s);
-    if let Verdict::Refused(r) = counts {
-        return Verdict::Refused(r);
-    }
-    let lengths = check_lengths(content_fits(s, ends, rays, weights, scales, points));
-    if let Verdict::Refused(r) = lengths {
-        return Verdict::Refused(r);
-    }
+    check_counts(s)?;
+    check_lengths(content_fits(s, ends, rays, weights, scales, points))?;
     check_rows(bytes, at, s)
 }
 
@@ -108,14 +82,11 @@ fn check_read(
     weights: &[f64],
     scales: &[f64],
     points: &[f64],
-) -> Verdict
+) -> Result<(), Refusal>
     ensures { result ≡ read_verdict bytes.now
         (lists ends.now rays.now weights.now scales.now points.now) }
 {
-    let image = check_image(bytes);
-    if let Verdict::Refused(r) = image {
-        return Verdict::Refused(r);
-    }
+    check_image(bytes)?;
     let s = shape_at(bytes, 36);
     check_content(bytes, 52, s, ends, rays, weights, scales, points)
 }
@@ -147,17 +118,14 @@ pub fn read(
     weights: &mut [f64],
     scales: &mut [f64],
     points: &mut [f64],
-) -> Counted
+) -> Result<Shape, Refusal>
     ensures { Reads bytes.now
         (lists ends.old rays.old weights.old scales.old points.old)
         result
         (lists ends.new rays.new weights.new scales.new points.new) }
 {
-    let verdict = check_read(bytes, ends, rays, weights, scales, points);
-    if let Verdict::Refused(r) = verdict {
-        return Counted::Refused(r);
-    }
-    Counted::Of(store(bytes, ends, rays, weights, scales, points))
+    check_read(bytes, ends, rays, weights, scales, points)?;
+    Ok(store(bytes, ends, rays, weights, scales, points))
 }
 
 // Writes the image of a network at the front of `out`, and leaves the bytes after it.
@@ -169,17 +137,14 @@ pub fn write(
     scales: &[f64],
     points: &[f64],
     out: &mut [u8],
-) -> Written
+) -> Result<usize, Refusal>
     ensures { Writes
         (content s ends.now rays.now weights.now scales.now points.now)
         out.old
         result
         out.new }
 {
-    let verdict = check_write(s, ends, rays, weights, scales, points, out.len());
-    if let Verdict::Refused(r) = verdict {
-        return Written::Refused(r);
-    }
+    check_write(s, ends, rays, weights, scales, points, out.len())?;
     put_image(s, ends, rays, weights, scales, points, out);
-    Written::Bytes(image_size(s))
+    Ok(image_size(s))
 }

@@ -11,10 +11,9 @@ ghost use Rattle.image.specs.Tests.{content_sections, row_tests};
 ghost use Rattle.image.specs.inner.Sound.{bad_row_from};
 
 use double::{Decoded, from_bits};
-use field::Place;
 use layout::bytes::{u32_at, u64_at};
-use network::answers::{both, choose, either, refused_at};
-use network::{Shape, Verdict};
+use network::answers::refused_at;
+use network::{Cause, Refusal, Shape};
 
 // Row r of those from `at` on, in a network of shape s, has a number that is out of range.
 fn strays_at(bytes: &[u8], at: usize, s: Shape, r: usize) -> bool
@@ -23,26 +22,17 @@ fn strays_at(bytes: &[u8], at: usize, s: Shape, r: usize) -> bool
     ensures { result ≡ strays s.cameras s.points s.bearings (ends_from at (rows s) bytes.now) r }
 {
     let p = at + 48 * r;
-    either(
-        s.cameras <= u32_at(bytes, p),
-        choose(r < s.bearings, s.points, s.cameras) <= u32_at(bytes, p + 4),
-    )
+    let others = if r < s.bearings { s.points } else { s.cameras };
+    (s.cameras <= u32_at(bytes, p)) | (others <= u32_at(bytes, p + 4))
 }
 
 // The lowest row from `at` on with a number that is out of range.
-fn find_stray(bytes: &[u8], at: usize, s: Shape) -> Place
+fn find_stray(bytes: &[u8], at: usize, s: Shape) -> Option<usize>
     requires { at + 48 * rows s ≤ length bytes.now }
     ensures { result ≡ lowest (strays s.cameras s.points s.bearings (ends_from at (rows s) bytes.now)) (rows s) }
 {
     let count = s.bearings + s.directions;
-    let mut r = 0usize;
-    while r < count {
-        if strays_at(bytes, at, s, r) {
-            return Place::At(r);
-        }
-        r += 1;
-    }
-    Place::Nowhere
+    (0..count).find(|&r| strays_at(bytes, at, s, r))
 }
 
 // Row r of those from `at` on, in a network of shape s, is a direction with source = target.
@@ -52,35 +42,25 @@ fn loops_at(bytes: &[u8], at: usize, s: Shape, r: usize) -> bool
     ensures { result ≡ loops s.bearings (ends_from at (rows s) bytes.now) r }
 {
     let p = at + 48 * r;
-    both(s.bearings <= r, u32_at(bytes, p) == u32_at(bytes, p + 4))
+    (s.bearings <= r) & (u32_at(bytes, p) == u32_at(bytes, p + 4))
 }
 
 // The lowest row from `at` on that is a direction with source = target.
-fn find_loop(bytes: &[u8], at: usize, s: Shape) -> Place
+fn find_loop(bytes: &[u8], at: usize, s: Shape) -> Option<usize>
     requires { at + 48 * rows s ≤ length bytes.now }
     ensures { result ≡ lowest (loops s.bearings (ends_from at (rows s) bytes.now)) (rows s) }
 {
     let count = s.bearings + s.directions;
-    let mut r = 0usize;
-    while r < count {
-        if loops_at(bytes, at, s, r) {
-            return Place::At(r);
-        }
-        r += 1;
-    }
-    Place::Nowhere
+    (0..count).find(|&r| loops_at(bytes, at, s, r))
 }
 
 // 4 and 5.
-fn check_ends(bytes: &[u8], at: usize, s: Shape) -> Verdict
+fn check_ends(bytes: &[u8], at: usize, s: Shape) -> Result<(), Refusal>
     requires { at + 48 * rows s ≤ length bytes.now }
     ensures { result ≡ verdict (end_tests s (ends_from at (rows s) bytes.now)) }
 {
-    let stray = refused_at(4, find_stray(bytes, at, s));
-    if let Verdict::Refused(r) = stray {
-        return Verdict::Refused(r);
-    }
-    refused_at(5, find_loop(bytes, at, s))
+    refused_at(Cause::OutOfRange, find_stray(bytes, at, s))?;
+    refused_at(Cause::Loop, find_loop(bytes, at, s))
 }
 
 pub(crate) fn double_at(bytes: &[u8], p: usize) -> Decoded
@@ -130,9 +110,7 @@ fn bad_vector_at(bytes: &[u8], p: usize) -> bool
     requires { p + 24 ≤ length bytes.now }
     ensures { result ≡ bad_vector (points_from p 1 bytes.now) 0 }
 {
-    let y = finite_at(bytes, p + 8);
-    let z = finite_at(bytes, p + 16);
-    !both(finite_at(bytes, p), both(y, z))
+    !(finite_at(bytes, p) & finite_at(bytes, p + 8) & finite_at(bytes, p + 16))
 }
 
 // The weight, scale or ray of the row that stands at p is outside the domain.
@@ -140,74 +118,51 @@ fn bad_row_at(bytes: &[u8], p: usize) -> bool
     requires { p + 48 ≤ length bytes.now }
     ensures { result ≡ bad_row_from p 1 bytes.now 0 }
 {
-    let scale = bad_scale_at(bytes, p + 40);
-    let ray = bad_vector_at(bytes, p + 8);
-    either(bad_weight_at(bytes, p + 32), either(scale, ray))
+    bad_weight_at(bytes, p + 32) | bad_scale_at(bytes, p + 40) | bad_vector_at(bytes, p + 8)
 }
 
 // The lowest of `count` rows from `at` on that is outside the domain.
-fn find_bad_row(bytes: &[u8], at: usize, count: usize) -> Place
+fn find_bad_row(bytes: &[u8], at: usize, count: usize) -> Option<usize>
     requires { at + 48 * count ≤ length bytes.now }
     ensures { result ≡ lowest (bad_row_from at count bytes.now) count }
 {
-    let mut r = 0usize;
-    while r < count {
-        if bad_row_at(bytes, at + 48 * r) {
-            return Place::At(r);
-        }
-        r += 1;
-    }
-    Place::Nowhere
+    (0..count).find(|&r| bad_row_at(bytes, at + 48 * r))
 }
 
 // The lowest of m points from `at` on that is not finite.
-fn find_bad_point(bytes: &[u8], at: usize, m: usize) -> Place
+fn find_bad_point(bytes: &[u8], at: usize, m: usize) -> Option<usize>
     requires { at + 24 * m ≤ length bytes.now }
     ensures { result ≡ lowest (bad_vector (points_from at m bytes.now)) m }
 {
-    let mut i = 0usize;
-    while i < m {
-        if bad_vector_at(bytes, at + 24 * i) {
-            return Place::At(i);
-        }
-        i += 1;
-    }
-    Place::Nowhere
+    (0..m).find(|&i| bad_vector_at(bytes, at + 24 * i))
 }
 
 // The lowest place outside the domain, counted through the rows from `at` on and the points behind them.
-fn find_outside(bytes: &[u8], at: usize, s: Shape) -> Place
+fn find_outside(bytes: &[u8], at: usize, s: Shape) -> Option<usize>
     requires { at + 48 * rows s + 24 * s.points ≤ length bytes.now }
     ensures { result ≡ running (content_sections (content_from at s bytes.now)) }
 {
     let count = s.bearings + s.directions;
-    let row = find_bad_row(bytes, at, count);
-    if let Place::At(r) = row {
-        return Place::At(r);
+    if let Some(r) = find_bad_row(bytes, at, count) {
+        return Some(r);
     }
-    let point = find_bad_point(bytes, at + 48 * count, s.points);
-    if let Place::At(p) = point {
-        return Place::At(count + p);
-    }
-    Place::Nowhere
+    let p = find_bad_point(bytes, at + 48 * count, s.points)?;
+    Some(count + p)
 }
 
 // 7.
-fn check_domain(bytes: &[u8], at: usize, s: Shape) -> Verdict
+fn check_domain(bytes: &[u8], at: usize, s: Shape) -> Result<(), Refusal>
     requires { at + 48 * rows s + 24 * s.points ≤ length bytes.now }
     ensures { result ≡ verdict (domain_tests (content_sections (content_from at s bytes.now))) }
 {
-    refused_at(7, find_outside(bytes, at, s))
+    refused_at(Cause::Domain, find_outside(bytes, at, s))
 }
 
 // 4, 5 and 7 of the rows from `at` on and the points behind them.
-pub(crate) fn check_rows(bytes: &[u8], at: usize, s: Shape) -> Verdict
+pub(crate) fn check_rows(bytes: &[u8], at: usize, s: Shape) -> Result<(), Refusal>
     requires { at + 48 * rows s + 24 * s.points ≤ length bytes.now }
     ensures { result ≡ verdict (row_tests (content_from at s bytes.now)) }
 {
-    let ends = check_ends(bytes, at, s);
-    if let Verdict::Refused(r) = ends {
-        return Verdict::Refused(r);
-    }
+    check_ends(bytes, at, s)?;
     check_domain(bytes, at, s)
 }

@@ -6,12 +6,11 @@ ghost use Rattle.network.specs.inner.Sound.{ShapeSound, ContentLengths};
 ghost use Rattle.layout.specs.Image.{content, image};
 ghost use Rattle.image.specs.Tests.{shorter, room_tests, write_tests};
 
-use field::Place;
 use network::answers::refused_at;
 use network::domain::check_domain;
 use network::ends::check_ends;
 use network::lengths::{check_lengths, content_fits};
-use network::{Shape, Verdict, check_counts};
+use network::{Cause, Refusal, Shape, check_counts};
 
 // The bytes of the image of a network of shape s.
 pub(crate) fn image_size(s: Shape) -> usize
@@ -22,20 +21,17 @@ pub(crate) fn image_size(s: Shape) -> usize
 }
 
 // The bytes needed, where there are fewer.
-fn shortage(room: usize, needed: usize) -> Place
+fn shortage(room: usize, needed: usize) -> Option<usize>
     ensures { result ≡ shorter room needed }
 {
-    if room < needed {
-        return Place::At(needed);
-    }
-    Place::Nowhere
+    if room < needed { Some(needed) } else { None }
 }
 
 // 23.
-fn check_room(room: usize, needed: usize) -> Verdict
+fn check_room(room: usize, needed: usize) -> Result<(), Refusal>
     ensures { result ≡ verdict (room_tests room needed) }
 {
-    refused_at(23, shortage(room, needed))
+    refused_at(Cause::Room, shortage(room, needed))
 }
 
 // 4, 5 and 7, then 23.
@@ -47,7 +43,7 @@ fn check_rows_and_room(
     scales: &[f64],
     points: &[f64],
     room: usize,
-) -> Verdict
+) -> Result<(), Refusal>
     requires shape_sound { ShapeSound s }
     requires content_lengths { ContentLengths s ends.now rays.now weights.now scales.now points.now }
     ensures { result ≡ verdict (end_tests s ends.now
@@ -55,14 +51,8 @@ fn check_rows_and_room(
         ++ room_tests room (length (image (content s
         ends.now rays.now weights.now scales.now points.now))))) }
 {
-    let stray = check_ends(s, ends);
-    if let Verdict::Refused(r) = stray {
-        return Verdict::Refused(r);
-    }
-    let domain = check_domain(s, rays, weights, scales, points);
-    if let Verdict::Refused(r) = domain {
-        return Verdict::Refused(r);
-    }
+    check_ends(s, ends)?;
+    check_domain(s, rays, weights, scales, points)?;
     check_room(room, image_size(s))
 }
 
@@ -75,18 +65,12 @@ pub(crate) fn check_write(
     scales: &[f64],
     points: &[f64],
     room: usize,
-) -> Verdict
+) -> Result<(), Refusal>
     ensures { result ≡ verdict (write_tests
         (content s ends.now rays.now weights.now scales.now points.now)
         room) }
 {
-    let counts = check_counts(s);
-    if let Verdict::Refused(r) = counts {
-        return Verdict::Refused(r);
-    }
-    let lengths = check_lengths(content_fits(s, ends, rays, weights, scales, points));
-    if let Verdict::Refused(r) = lengths {
-        return Verdict::Refused(r);
-    }
+    check_counts(s)?;
+    check_lengths(content_fits(s, ends, rays, weights, scales, points))?;
     check_rows_and_room(s, ends, rays, weights, scales, points, room)
 }

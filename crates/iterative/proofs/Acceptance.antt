@@ -1,6 +1,7 @@
 -- The acceptance theorem: what the method ends with is `Accepted`. A finite final residual has finite terms, so every difference that it squares is
 -- finite, and with it both sides of the difference: the right side, so that the allowed residual is no NaN, and the operator's output, so that the
 -- cameras are finite. One argument for x, y and z, over any system that is `Regular`. Assumes nothing.
+use Rattle.std.proofs.Common.{None, Option, Some}
 use mathlib.Core.Path.{◌≡◌, refl, sym, ap, ◌∙◌, subst}
 use mathlib.Core.Bool.{Bool, true, false, not}
 use mathlib.Core.List.{List}
@@ -12,8 +13,6 @@ use lib.ListN.{length}
 use lib.Ieee.{binary64, lt, le, of_bits, is_nan}
 use lib.Ieee.Scale.{finite}
 use Rattle.field.specs.declared.Vec3.{Vec3}
-use Rattle.field.specs.declared.Place.{Place}
-use Rattle.field.specs.declared.Place.TheVariants.{At, Nowhere}
 use Rattle.field.specs.Vec.{Axis, X, Y, Z, at, on, null, origin}
 use Rattle.field.proofs.Vectors.{on-minus, on-origin}
 use Rattle.field.proofs.Counting.{length-field, get_or-field, none_of}
@@ -36,7 +35,7 @@ use Rattle.iterative.proofs.RunInvariant.{Shaped, Reached, rounds-reached}
 
 -- ---- what the final test says
 
-pub component-none : (p : Axis → Bool) → component p ≡ Nowhere → (k : Axis) → p k ≡ false
+pub component-none : (p : Axis → Bool) → component p ≡ None → (k : Axis) → p k ≡ false
 component-none p e X = none_of _ 3 e 0 (omega arith)
 component-none p e Y = none_of _ 3 e 1 (omega arith)
 component-none p e Z = none_of _ 3 e 2 (omega arith)
@@ -54,19 +53,19 @@ passes most residual k e = let h = neither (not (finite (on k residual))) (lt (o
 record Closed (P : Problem) (m : ℕ) (s : State) : Type 0 where
   shaped : Shaped P s
   count : s.round.count ≤ m
-  passed : component (bad_residual (allowed P) (residual_of P s.positions)) ≡ Nowhere
+  passed : component (bad_residual (allowed P) (residual_of P s.positions)) ≡ None
 
 module _ (P : Problem) (m : ℕ) (s : State) where
-  tested-closed : (t : State) (p : Place) → component (bad_residual (allowed P) (residual_of P t.positions)) ≡ p → accepted_unless p t ≡ taken s → Shaped P t → t.round.count ≤ m → Closed P m s
-  tested-closed t (At i) q e h l = absurd (let z : ◌≡◌ {A = ℕ} 0 1 = cc in omega arith)
-  tested-closed t Nowhere q e h l =
+  tested-closed : (t : State) (p : Option ℕ) → component (bad_residual (allowed P) (residual_of P t.positions)) ≡ p → accepted_unless p t ≡ taken s → Shaped P t → t.round.count ≤ m → Closed P m s
+  tested-closed t (Some i) q e h l = absurd (let z : ◌≡◌ {A = ℕ} 0 1 = cc in omega arith)
+  tested-closed t None q e h l =
       let z : t ≡ s = cc in
       subst (Closed P m) z (record { shaped = h; count = l; passed = q })
 
   closed_of : (r : Run) → Reached P m r → closed P r ≡ taken s → Closed P m s
   closed_of (running t) h e = tested-closed t _ refl e h.kept (omega arith)
   closed_of (ended t) h e = tested-closed t _ refl e h.kept h.count
-  closed_of (failed n i) h e = absurd (let z : ◌≡◌ {A = ℕ} 0 1 = cc in omega arith)
+  closed_of (failed r) h e = absurd (let z : ◌≡◌ {A = ℕ} 0 1 = cc in omega arith)
 
 -- ---- what a residual that passes says of the cameras x, whichever method they come from
 
@@ -102,7 +101,7 @@ residual-within P x k (e, h) =
 
 -- ---- the theorem, of any n cameras with the anchor at zero that pass the final test
 
-pub fits : (P : Problem) → Regular P → (x : List Vec3) → length x ≡ P.cameras → at x P.anchor ≡ origin → component (bad_residual (allowed P) (residual_of P x)) ≡ Nowhere → Fits P x
+pub fits : (P : Problem) → Regular P → (x : List Vec3) → length x ≡ P.cameras → at x P.anchor ≡ origin → component (bad_residual (allowed P) (residual_of P x)) ≡ None → Fits P x
 fits P S x n z e =
     let passed : (k : Axis) → Passes (allowed P) (residual_of P x) k = λ k. passes (allowed P) (residual_of P x) k (component-none (bad_residual (allowed P) (residual_of P x)) e k) in
     record {

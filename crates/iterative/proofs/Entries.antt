@@ -1,4 +1,5 @@
 -- The passes over the cameras: what each turn stores is the field's own entry; sums over the cameras but the anchor. Assumes nothing.
+use Rattle.std.proofs.Common.{None, Some, Option, MatchOption}
 use mathlib.Core.Path.{sym, ◌∙◌, ◌≡◌}
 use mathlib.Core.List.{List}
 use mathlib.Core.Bool.{Bool, cond, not, ◌&&◌, true, false}
@@ -11,20 +12,19 @@ use lib.ListN.{length}
 use lib.Ieee.{Float}
 use lib.Ieee.Scale.{finite}
 use Rattle.field.proofs.Buffers.{at_load, seen-before, vector-lawful}
-use Rattle.field.proofs.Counting.{upto-suc, upto_zero, lowest-more, lowest-found}
-use Rattle.field.proofs.Fills.{fill-ended, fill_more, fill_none, filled_at, seen-later, seen-own, seen-prior}
+use Rattle.field.proofs.Counting.{upto-suc, upto_zero, lowest-is, lowest-none}
+use Rattle.field.proofs.Fills.{fill_more, fill_none, filled_at, seen-later, seen-own, seen-prior}
 use Rattle.field.specs.Buffer.{get, load, put, store, vector}
 use Rattle.field.specs.Count.{field, lowest, upto}
 use Rattle.field.specs.Vec.{at, minus, origin, over, plus}
-use Rattle.field.specs.declared.Place.TheVariants.{At, Nowhere}
 use Rattle.field.specs.declared.Vec3.{Vec3}
 use Rattle.system.specs.System.{no_term, term_at, diagonal_of}
 use Rattle.system.specs.Work.{term, term_place}
 use Rattle.system.proofs.Terms.{term-here}
-use Rattle.iterative.specs.Method.{bad_diagonal, difference, difference_entry, preconditioned_entry, search_entry, search_field, search_step, stepped, stepped_entry}
-use Rattle.iterative.specs.Problem.{dot_step, field_dot, times}
+use Rattle.iterative.specs.Method.{bad_diagonal, difference_entry, preconditioned_entry, search_entry, search_step, stepped, stepped_entry}
+use Rattle.iterative.specs.Problem.{dot_step, times}
 use Rattle.iterative.specs.declared.Active.{Active}
-use Rattle.iterative.specs.inner.Solver.{TurnPreconditioned, TurnStepped, diagonal_in}
+use Rattle.iterative.specs.inner.Solver.{Summed, diagonal_in}
 
 -- ---- the camera terms, in a buffer that no loop has changed and behind which a field is stored
 
@@ -42,22 +42,29 @@ module _ (l w : List Float) (p : ℕ) (g : ℕ → Vec3) (n i : ℕ) (e : w ≡ 
 
 -- ---- the search for a bad diagonal
 
-module _ (l : List Float) (n a i : ℕ) (d : Float) (b : Bool) (h : i < n) (ed : d ≡ diagonal_in l i) (eb : b ≡ (not (eqb i a) && not (finite d))) where
+-- as the code tests it
+abbrev pub bad_in : List Float → ℕ → ℕ → Bool
+bad_in l a i = not (eqb i a) && not (finite (diagonal_in l i))
+
+module _ (l : List Float) (n a : ℕ) where
   abbrev bad : ℕ → Bool
   bad = bad_diagonal a (diagonal_of (load term l 0 n))
 
-  bad-is : b ≡ bad i
+  bad-is : (i : ℕ) → i < n → bad i ≡ bad_in l a i
   unfolding bad_diagonal
-  bad-is = eb ∙ rw (ed, diagonal-here l n i h)
+  bad-is i h = rw (diagonal-here l n i h)
 
-  pub bad-found : lowest bad i ≡ Nowhere → b ≡ true → At i ≡ lowest bad n
-  bad-found z t = sym (lowest-found bad i n z (sym bad-is ∙ t) h)
+  bad-found : (i : ℕ) → i < n → bad_in l a i ≡ true → ((k : ℕ) → 0 ≤ k → k < i → bad_in l a k ≡ false) → Some i ≡ lowest bad n
+  bad-found i h t f = sym (lowest-is bad i n (bad-is i h ∙ t) h (λ k b. bad-is k (omega arith) ∙ f k (omega arith) b))
 
-  pub bad-not : lowest bad i ≡ Nowhere → b ≡ false → lowest bad (i + 1) ≡ Nowhere
-  bad-not z f = rw add-one (lowest-more bad i z (sym bad-is ∙ f))
+  bad-none : ((k : ℕ) → 0 ≤ k → k < n → bad_in l a k ≡ false) → None ≡ lowest bad n
+  bad-none f = sym (lowest-none bad n (λ k b. bad-is k b ∙ f k (omega arith) b))
 
-pub bad-none : (l : List Float) (n a i : ℕ) → lowest (bad_diagonal a (diagonal_of (load term l 0 n))) i ≡ Nowhere → i ≤ n → n ≤ i → Nowhere ≡ lowest (bad_diagonal a (diagonal_of (load term l 0 n))) n
-bad-none l n a i e b c = let q : i ≡ n = omega arith in sym (rw q at e)
+  -- what the search tells
+  pub bad-searched : {r : Option ℕ} → MatchOption r ((k : ℕ) → 0 ≤ k → k < n → bad_in l a k ≡ false)
+      (λ i. (0 ≤ i) × (i < n) × (bad_in l a i ≡ true) × ((k : ℕ) → 0 ≤ k → k < i → bad_in l a k ≡ false)) → r ≡ lowest bad n
+  bad-searched {r = Some i} t = bad-found i t.1 t.2 t.3
+  bad-searched {r = None} t = bad-none t
 
 -- ---- a sum over the cameras but the anchor
 
@@ -80,10 +87,6 @@ module _ (f g : List Vec3) (a : ℕ) where
   pub dot-more : (i : ℕ) (s t : Vec3) → s ≡ upto (dot_step a f g) i origin → t ≡ dot_step a f g i s → t ≡ upto (dot_step a f g) (i + 1) origin
   dot-more i s t e k = rw (add-one, upto-suc, ← e) k
 
-  pub dot-ended : (i n : ℕ) (s : Vec3) → s ≡ upto (dot_step a f g) i origin → i ≤ n → n ≤ i → s ≡ field_dot n a f g
-  unfolding field_dot
-  dot-ended i n s e b c = let q : i ≡ n = omega arith in rw q at e
-
 -- a dot that is summed in the pass that stores its second field g, or both of whose fields are g: w has i + 1 of its vectors stored from p on
 module _ (g : ℕ → Vec3) (l w : List Float) (p n a i : ℕ) (s t : Vec3) (e : w ≡ store vector l p (field (i + 1) g)) (m : p + 3 * n ≤ length l) (h : i < n) where
   own-stored : at (load vector w p n) i ≡ at (field n g) i
@@ -101,70 +104,54 @@ module _ (g : ℕ → Vec3) (l w : List Float) (p n a i : ℕ) (s t : Vec3) (e :
   unfolding dot_step
   dot-self f d = rw (add-one, upto-suc, ← f) (d ∙ rw own-stored)
 
--- ---- a field g whose first i vectors are stored in m, and the sum so far of the dot of f with it
+-- ---- a field that is filled, and its dot summed in the same pass: no vector, and one more
 
-pub record FillDot (g : ℕ → Vec3) (f : List Vec3) (n a into : ℕ) (l : List Float) (i : ℕ) (m : List Float) (t : Vec3) : Type 0 where
-  pub filled : m ≡ store vector l into (field i g)
-  pub dot : t ≡ upto (dot_step a f (field n g)) i origin
+module _ (g : ℕ → Vec3) (n a with into : ℕ) (l : List Float) where
+  pub summed-none : (t : Vec3) → t ≡ origin → Summed g n a with into l 0 l t
+  summed-none t e = record { filled = fill_none g l into; own = λ _. dot-none _ (field n g) a t e; prior = λ _. dot-none _ (field n g) a t e }
 
-module _ (g : ℕ → Vec3) (f : List Vec3) (n a into : ℕ) (l : List Float) where
-  pub fill-dot-none : (t : Vec3) → t ≡ origin → FillDot g f n a into l 0 l t
-  fill-dot-none t e = record { filled = fill_none g l into; dot = dot-none f (field n g) a t e }
+  pub summed-more : (i : ℕ) (m w : List Float) (v t u : Vec3) → i < n → into + 3 * n ≤ length l → Summed g n a with into l i m t → v ≡ g i →
+      w ≡ put vector m (into + 3 * i) v → u ≡ dot_step a (load vector w with n) (load vector w into n) i t → Summed g n a with into l (i + 1) w u
+  summed-more i m w v t u h r S ev ew eu =
+      let e = fill_more g l into i m w v S.filled ev ew in
+      record {
+        filled = e;
+        own = λ q. dot-self g l w into n a i t u e r h (S.own q) (rw q at eu);
+        prior = λ k. dot-with g l w into n a i t u e r h with k (S.prior k) eu;
+      }
 
-  module _ (i : ℕ) (m : List Float) (t : Vec3) (F : FillDot g f n a into l i m t) (b : i ≤ n) (c : n ≤ i) where
-    pub fill-dot-field : m ≡ store vector l into (field n g)
-    fill-dot-field = fill-ended g l into i n m F.filled b c
+-- ---- what a turn makes, of a buffer m that has the first i vectors stored, is the field's own vector
 
-    pub fill-dot-sum : t ≡ field_dot n a f (field n g)
-    fill-dot-sum = dot-ended f (field n g) a i n t F.dot b c
-
--- ---- one entry more
-
-module _ (n a : ℕ) (l m w : List Float) (i : ℕ) (h : i < n) where
+module _ (n a : ℕ) (l m : List Float) (i : ℕ) (v : Vec3) (h : i < n) where
   module _ (from into : ℕ) (k : term_place n ≤ from) (apart : from + 3 * n ≤ into) where
     abbrev z : ℕ → Vec3
     z = preconditioned_entry a (diagonal_of (load term l 0 n)) (load vector l from n)
 
-    pub precondition-more : m ≡ store vector l into (field i z) →
-        w ≡ put vector m (into + 3 * i) (cond (eqb i a) origin (over (get vector m (from + 3 * i)) (diagonal_in m i))) →
-        w ≡ store vector l into (field (i + 1) z)
+    pub preconditioned-made : m ≡ store vector l into (field i z) → v ≡ cond (eqb i a) origin (over (get vector m (from + 3 * i)) (diagonal_in m i)) → v ≡ z i
     unfolding preconditioned_entry
-    precondition-more e f =
-        fill_more _ l into i m w _ e (rw (seen-prior l m into _ n i e h from apart, diagonal-seen l m into _ n i e h (omega arith))) f
-
-    -- and its dot with what it is made of
-    pub precondition-turn : (t u : Vec3) → into + 3 * n ≤ length l → FillDot z (load vector l from n) n a into l i m t → TurnPreconditioned n a from into i t m w u →
-        FillDot z (load vector l from n) n a into l (i + 1) w u
-    precondition-turn t u r F D =
-        let e = precondition-more F.filled D.put in
-        record { filled = e; dot = dot-with z l w into n a i t u e r h from apart F.dot D.dot }
+    preconditioned-made e f = f ∙ rw (seen-prior l m into _ n i e h from apart, diagonal-seen l m into _ n i e h (omega arith))
 
   module _ (from into : ℕ) (apart : from + 3 * n ≤ into) where
-    pub search-more : (active : Active) (beta : Vec3) → m ≡ store vector l into (search_field i active beta (load vector l from n) (load vector l into n)) →
-        w ≡ put vector m (into + 3 * i) (search_step active beta (get vector m (from + 3 * i)) (get vector m (into + 3 * i))) →
-        w ≡ store vector l into (search_field (i + 1) active beta (load vector l from n) (load vector l into n))
-    unfolding search_entry
-    search-more active beta e f = fill_more _ l into i m w _ e (rw (seen-prior l m into _ n i e h from apart, seen-own l m into _ n i e h)) f
+    module _ (active : Active) (beta : Vec3) where
+      abbrev p : ℕ → Vec3
+      p = search_entry active beta (load vector l from n) (load vector l into n)
 
-    pub difference-more : m ≡ store vector l into (difference i (load vector l into n) (load vector l from n)) →
-        w ≡ put vector m (into + 3 * i) (minus (get vector m (into + 3 * i)) (get vector m (from + 3 * i))) →
-        w ≡ store vector l into (difference (i + 1) (load vector l into n) (load vector l from n))
+      pub search-made : m ≡ store vector l into (field i p) → v ≡ search_step active beta (get vector m (from + 3 * i)) (get vector m (into + 3 * i)) → v ≡ p i
+      unfolding search_entry
+      search-made e f = f ∙ rw (seen-prior l m into _ n i e h from apart, seen-own l m into _ n i e h)
+
+    abbrev d : ℕ → Vec3
+    d = difference_entry (load vector l into n) (load vector l from n)
+
+    pub difference-made : m ≡ store vector l into (field i d) → v ≡ minus (get vector m (into + 3 * i)) (get vector m (from + 3 * i)) → v ≡ d i
     unfolding difference_entry
-    difference-more e f = fill_more _ l into i m w _ e (rw (seen-prior l m into _ n i e h from apart, seen-own l m into _ n i e h)) f
+    difference-made e f = f ∙ rw (seen-prior l m into _ n i e h from apart, seen-own l m into _ n i e h)
 
   module _ (op : Float → Float → Float) (active : Active) (alpha : Vec3) (into along : ℕ) (apart : into + 3 * n ≤ along) where
     abbrev y : ℕ → Vec3
     y = stepped_entry a op active alpha (load vector l into n) (load vector l along n)
 
-    pub stepped-more : m ≡ store vector l into (field i y) →
-        w ≡ put vector m (into + 3 * i) (cond (eqb i a) (get vector m (into + 3 * i)) (stepped op active alpha (get vector m (into + 3 * i)) (get vector m (along + 3 * i)))) →
-        w ≡ store vector l into (field (i + 1) y)
+    pub stepped-made : m ≡ store vector l into (field i y) →
+        v ≡ cond (eqb i a) (get vector m (into + 3 * i)) (stepped op active alpha (get vector m (into + 3 * i)) (get vector m (along + 3 * i))) → v ≡ y i
     unfolding stepped_entry
-    stepped-more e f = fill_more _ l into i m w _ e (rw (seen-own l m into _ n i e h, seen-later l m into _ n i e h along apart)) f
-
-    -- and its dot with itself
-    pub stepped-turn : (t u : Vec3) → into + 3 * n ≤ length l → FillDot y (field n y) n a into l i m t → TurnStepped n a op active alpha into along i t m w u →
-        FillDot y (field n y) n a into l (i + 1) w u
-    stepped-turn t u r F D =
-        let e = stepped-more F.filled D.put in
-        record { filled = e; dot = dot-self y l w into n a i t u e r h F.dot D.dot }
+    stepped-made e f = f ∙ rw (seen-own l m into _ n i e h, seen-later l m into _ n i e h along apart)

@@ -1,4 +1,5 @@
 -- What the method answers on small networks, by computing. Assumes nothing.
+use Rattle.network.specs.declared.Cause.TheVariants.{Diagonal}
 use mathlib.Core.Path.{◌≡◌, refl}
 use mathlib.Core.List.{List, [], ◌∷◌, ◌++◌}
 use mathlib.Core.Bool.{false}
@@ -48,7 +49,7 @@ unfolding computing single
 whole-solution = refl
 
 -- weight 1e300, scale 1e10: 9 at camera 1
-pub overflowing-fails : solution (problem pair) ≡ refused 9 1
+pub overflowing-fails : solution (problem pair) ≡ refused (record { cause = Diagonal; place = 1 })
 unfolding computing directed
 overflowing-fails = refl
 

@@ -18,7 +18,7 @@ use Rattle.system.specs.declared.CameraTerm.{CameraTerm}
 use Rattle.system.specs.inner.Formed.{Segments, weights_in}
 use Rattle.operator.proofs.Buffered.{weights-kept}
 use Rattle.operator.specs.Operator.{reduced_by}
-use Rattle.iterative.specs.inner.Solver.{Outside, PositionsKept, SystemKept, problem_in, problem_with}
+use Rattle.iterative.specs.inner.Solver.{Outside, SystemKept, problem_in, problem_with}
 
 -- ---- all but the six fields
 
@@ -56,9 +56,6 @@ kept_same s l = record { outside = outside-same s l; right = refl }
 
 pub kept_then : {s : Shape} {l m w : List Float} → SystemKept s l m → SystemKept s m w → SystemKept s l w
 kept_then a b = record { outside = outside-then a.outside b.outside; right = b.right ∙ a.right }
-
-pub placed_same : (s : Shape) (l : List Float) → PositionsKept s l l
-placed_same s l = record { kept = kept_same s l; positions = refl }
 
 -- a field of n vectors that lies elsewhere, and the one that was stored
 pub other-field : (n : ℕ) (l : List Float) (p : ℕ) (f : List Vec3) (w : List Float) (q : ℕ) → w ≡ store vector l p f → length f ≡ n → Apart p (3 * n) q (3 * n) → load vector w q n ≡ load vector l q n

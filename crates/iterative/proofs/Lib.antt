@@ -9,3 +9,4 @@ pub mod Running
 pub mod Opening
 pub mod Solving
 pub mod Examples
+pub mod Refused

@@ -154,7 +154,7 @@ module _ (s : Shape) (a : ℕ) (l : List Float) where
     pub opened-fields : weights_at s ≤ length l → Each (λ g. load vector m g.place n ≡ field n g.entry) (segments_of s a ts)
     opened-fields room = each-load n m (start_segments s b z) (cameras-formed n m v w room (omega arith) O).formed
 
-  -- the loop: where it begins, one camera more, where it ends
+  -- the loop: where it begins, and one camera more
   pub opened-none : (v w : Vec3) → v ≡ origin → w ≡ origin → Opened s a 0 l l v w
   unfolding field_dot
   opened-none v w ev ew = record { buffer = sym (filled_none (start_segments s b z) l); sums = ev ∙ sym (upto_zero _ origin); old = ew ∙ sym (upto_zero _ origin) }
@@ -182,9 +182,6 @@ module _ (s : Shape) (a : ℕ) (l : List Float) where
       sums = T.sums ∙ rw (add-one, upto-suc, ← O.sums, get_or-field n b k origin c, right_kept);
       old = T.old ∙ rw (add-one, upto-suc, ← O.old, get_or-field n b k origin c, get_or-field n z k origin c, right_kept, preconditioned-kept);
     }
-
-  pub opened-ended : (k : ℕ) (m : List Float) (v w : Vec3) → Opened s a k l m v w → k ≤ n → n ≤ k → Opened s a n l m v w
-  opened-ended k m v w O c d = let q : k ≡ n = omega arith in rw q at O
 
 pub start-formed : StartFormed
 start-formed s a k l = cameras-formed s a l k

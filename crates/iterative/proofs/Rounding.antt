@@ -1,4 +1,10 @@
 -- One round: what its parts leave in the buffer is the method's, from what the calls ensure. Assumes nothing.
+use Rattle.std.proofs.Common.{Err, Ok, Result}
+use Rattle.network.specs.declared.Cause.TheVariants.{Curvature, Product}
+use Rattle.network.specs.Refusals.{Verdict, test_at}
+use Rattle.network.specs.declared.Refusal.{Refusal}
+use Rattle.iterative.proofs.Refused.{unless-refused}
+use Rattle.std.proofs.Common.{None, Option}
 use mathlib.Core.Path.{ap, sym, ◌∙◌, ◌≡◌}
 use mathlib.Core.Logic.{inl, inr}
 use mathlib.Core.List.{List}
@@ -9,10 +15,8 @@ use lib.ListN.{length}
 use lib.Ieee.{Float, add, binary64, sub}
 use Rattle.field.proofs.Counting.{length-field}
 use Rattle.field.specs.Buffer.{load, store, vector}
-use Rattle.field.specs.declared.Place.{Place}
-use Rattle.field.specs.declared.Place.TheVariants.{At, Nowhere}
 use Rattle.field.specs.declared.Vec3.{Vec3}
-use Rattle.network.specs.Network.{Links, links}
+use Rattle.network.specs.Network.{Links}
 use Rattle.network.specs.declared.Shape.{Shape}
 use Rattle.system.specs.System.{diagonal_of}
 use Rattle.system.specs.Work.{applied_at, matrix_at, positions_at, preconditioned_at, residual_at, search_at, term}
@@ -27,7 +31,7 @@ use Rattle.iterative.specs.Problem.{field_dot}
 use Rattle.iterative.specs.declared.Active.{Active}
 use Rattle.iterative.specs.declared.Round.{Round}
 use Rattle.iterative.specs.declared.Step.{Step}
-use Rattle.iterative.specs.declared.Step.TheVariants.{Ended, Failed, Running}
+use Rattle.iterative.specs.declared.Step.TheVariants.{Ended, Running}
 use Rattle.iterative.specs.inner.Solver.{FieldStepped, FieldsFit, MovedAlong, Preconditioned, Ran, Rounded, SystemKept}
 use Rattle.iterative.specs.inner.Solver.{continued_by, problem_in, redirected_by, right_sums}
 use Rattle.iterative.specs.inner.Solver.{stepped_by}
@@ -54,13 +58,14 @@ module _ (s : Shape) (a : ℕ) (l : List Float) (R : FieldsFit s (length l)) whe
     kept-z : SystemKept s l l1
     kept-z = kept_store s l _ z l1 stored-z size-z (omega arith) (omega arith) (inr (omega arith))
 
-    pub redirect-failed : (p : Place) (i : ℕ) → p ≡ component (bad_product r.active r.old new) → p ≡ At i → Ran s (redirected_by s a l r) l l1 (Failed 12 i)
-    redirect-failed p i e h = record { run = λ op. rw (← new_is, sym e ∙ h); kept = kept-z }
+    pub redirect-failed : (p : Option ℕ) {v : Verdict} {q : Refusal} → p ≡ component (bad_product r.active r.old new) → v ≡ test_at Product p → v ≡ Err q →
+        Ran s (redirected_by s a l r) l l1 (Err q)
+    redirect-failed p e t h = record { run = λ op. rw (← new_is, ← e) (sym (unless-refused p Product _ t h)); kept = kept-z }
 
-    pub redirect-running : (p : Place) (beta : Vec3) (into : ℕ) (l2 : List Float) → p ≡ component (bad_product r.active r.old new) → p ≡ Nowhere → into ≡ search_at s →
+    pub redirect-running : (p : Option ℕ) (beta : Vec3) (into : ℕ) (l2 : List Float) → p ≡ component (bad_product r.active r.old new) → p ≡ None → into ≡ search_at s →
         beta ≡ quotient new r.old →
         l2 ≡ store vector l1 into (search_field n r.active beta (load vector l1 at n) (load vector l1 into n)) →
-        Ran s (redirected_by s a l r) l l2 (Running (record { old = new; active = r.active; count = r.count }))
+        Ran s (redirected_by s a l r) l l2 (Ok (Running (record { old = new; active = r.active; count = r.count })))
     unfolding redirected
     redirect-running p beta into l2 e' h ei eb e4 =
         let q = search_field n r.active beta (load vector l1 (preconditioned_at s) n) (load vector l1 (search_at s) n) in
@@ -73,7 +78,7 @@ module _ (s : Shape) (a : ℕ) (l : List Float) (R : FieldsFit s (length l)) whe
         ∙ other-field n l _ z l1 (positions_at s) stored-z size-z (inr (omega arith)) in
         let y : load vector l2 (residual_at s) n ≡ load vector l (residual_at s) n = other-field n l1 _ q l2 (residual_at s) stored size-q (inr (omega arith))
         ∙ other-field n l _ z l1 (residual_at s) stored-z size-z (inr (omega arith)) in
-        let w : component (bad_product r.active r.old new) ≡ Nowhere = sym e' ∙ h in
+        let w : component (bad_product r.active r.old new) ≡ None = sym e' ∙ h in
         record {
           run = λ op. rw (← new_is, w, x, y, e, at-z, f, eb);
           kept = kept_then kept-z (kept_store s l1 _ q l2 stored size-q (omega arith) (omega arith) (inr (omega arith)));
@@ -81,10 +86,10 @@ module _ (s : Shape) (a : ℕ) (l : List Float) (R : FieldsFit s (length l)) whe
 
   -- ---- on, where a component is active
 
-  pub continue-running : (r : Round) (b : Bool) (l1 : List Float) (t : Step) → b ≡ any r.active → b ≡ true → Ran s (redirected_by s a l r) l l1 t → Ran s (continued_by s a l r) l l1 t
+  pub continue-running : (r : Round) (b : Bool) (l1 : List Float) (t : Result Step Refusal) → b ≡ any r.active → b ≡ true → Ran s (redirected_by s a l r) l l1 t → Ran s (continued_by s a l r) l l1 t
   continue-running r b l1 t e h D = let q : any r.active ≡ true = sym e ∙ h in record { run = λ op. rw q (D.run op); kept = D.kept }
 
-  pub continue-ended : (r : Round) (b : Bool) → b ≡ any r.active → b ≡ false → Ran s (continued_by s a l r) l l (Ended r)
+  pub continue-ended : (r : Round) (b : Bool) → b ≡ any r.active → b ≡ false → Ran s (continued_by s a l r) l l (Ok (Ended r))
   continue-ended r b e h = let q : any r.active ≡ false = sym e ∙ h in record { run = λ op. rw q; kept = kept_same s l }
 
   -- ---- the step along the search vector
@@ -117,17 +122,17 @@ module _ (s : Shape) (a : ℕ) (l : List Float) (R : FieldsFit s (length l)) whe
 
   -- ---- the round, once the system has been applied to the search vector
 
-  module _ (r : Round) (curvature : Vec3) (p q : ℕ) (place : Place) (ep : p ≡ search_at s) (eq : q ≡ applied_at s) (e0 : curvature ≡ field_dot n a (load vector l p n) (load vector l q n))
+  module _ (r : Round) (curvature : Vec3) (p q : ℕ) (place : Option ℕ) (ep : p ≡ search_at s) (eq : q ≡ applied_at s) (e0 : curvature ≡ field_dot n a (load vector l p n) (load vector l q n))
       (ec : place ≡ component (bad_curvature r.active r.old curvature)) where
     curvature-is : curvature ≡ field_dot n a (load vector l (search_at s) n) (load vector l (applied_at s) n)
     curvature-is = rw (ep, eq) at e0
 
-    pub step-failed : (i : ℕ) → place ≡ At i → Ran s (stepped_by s a l r) l l (Failed 11 i)
-    step-failed i h = record { run = λ op. rw (← curvature-is, sym ec ∙ h); kept = kept_same s l }
+    pub step-failed : {v : Verdict} {q : Refusal} → v ≡ test_at Curvature place → v ≡ Err q → Ran s (stepped_by s a l r) l l (Err q)
+    step-failed t h = record { run = λ op. rw (← curvature-is, ← ec) (sym (unless-refused place Curvature _ t h)); kept = kept_same s l }
 
-    pub step-done : (l1 l2 : List Float) (t : Round) (x : Step) → place ≡ Nowhere → MovedAlong s a r curvature l l1 t → Ran s (continued_by s a l1 t) l1 l2 x → Ran s (stepped_by s a l r) l l2 x
+    pub step-done : (l1 l2 : List Float) (t : Round) (x : Result Step Refusal) → place ≡ None → MovedAlong s a r curvature l l1 t → Ran s (continued_by s a l1 t) l1 l2 x → Ran s (stepped_by s a l r) l l2 x
     step-done l1 l2 t x h M C =
-        let w : component (bad_curvature r.active r.old curvature) ≡ Nowhere = sym ec ∙ h in
+        let w : component (bad_curvature r.active r.old curvature) ≡ None = sym ec ∙ h in
         record {
           run = λ op. C.run op ∙ rw (problem-kept s a l l1 op M.kept, ap (λ (v : State). any v.round.active) (M.state op), M.state op, ← curvature-is, w);
           kept = kept_then M.kept C.kept;
@@ -135,26 +140,28 @@ module _ (s : Shape) (a : ℕ) (l : List Float) (R : FieldsFit s (length l)) whe
 
 -- ---- the whole round
 
-module _ (s : Shape) (ends offsets listed : List ℕ) (a from into : ℕ) (l l1 : List Float) (ef : from ≡ search_at s) (ei : into ≡ applied_at s)
-    (e : l1 ≡ reduced_in (links s ends offsets listed) a from into l) where
-  abbrev L : Links
-  L = links s ends offsets listed
+-- z and b are the shape and the anchor as they were read
+module _ (L : Links) (z : Shape) (ez : z ≡ L.shape) (a from into : ℕ) (l l1 : List Float) (ef : from ≡ search_at z) (ei : into ≡ applied_at z)
+    (e : l1 ≡ reduced_in L a from into l) where
+  abbrev s : Shape
+  s = L.shape
 
   abbrev w : List Vec3
   w = reduced_by L (weights_in s l) a (load vector l (search_at s) s.cameras)
 
   stored : l1 ≡ store vector l (applied_at s) w
-  stored = rw (ef, ei) at e
+  stored = rw (ef, ei, ez) at e
 
   applied-kept : SystemKept s l l1
   applied-kept = kept_store s l _ _ l1 stored (by_length L _ a _) (omega arith) (omega arith) (inr (omega arith))
 
-  pub bound-after : (bound : Vec3) → bound ≡ bound_of (right_sums s a l) → bound ≡ bound_of (right_sums s a l1)
-  bound-after bound h = rw applied-kept.right h
+  pub bound-after : (b : ℕ) (bound : Vec3) → b ≡ a → bound ≡ bound_of (right_sums s a l) → bound ≡ bound_of (right_sums z b l1)
+  bound-after b bound eb h = rw (ez, eb, applied-kept.right) h
 
-  pub rounded : (l2 : List Float) (r : Round) (x : Step) → matrix_at s ≤ length l → Ran s (stepped_by s a l1 r) l1 l2 x → Rounded s (problem_in L a l) r l l2 x
+  pub rounded : (b : ℕ) (l2 : List Float) (r : Round) (x : Result Step Refusal) → b ≡ a → matrix_at s ≤ length l → Ran z (stepped_by z b l1 r) l1 l2 x → Rounded s (problem_in L a l) r l l2 x
   unfolding round
-  rounded l2 r x room D =
+  rounded b l2 r x eb room D0 =
+      let D : Ran s (stepped_by s a l1 r) l1 l2 x = rw (ez, eb) at D0 in
       let n = s.cameras in
       let size : length w ≡ n = by_length L _ a _ in
       let f : load vector l1 (applied_at s) n ≡ w = own-field n l _ w l1 stored size (omega arith) in

@@ -1,4 +1,7 @@
 -- What holds after k rounds of the method. Assumes nothing.
+use Rattle.network.specs.declared.Cause.{Cause}
+use Rattle.network.specs.declared.Cause.TheVariants.{Curvature, Product}
+use Rattle.std.proofs.Common.{None, Option, Some}
 use mathlib.Core.Path.{◌≡◌, refl, ap, ◌∙◌}
 use mathlib.Core.Bool.{Bool, true, false, cond}
 use mathlib.Core.List.{List}
@@ -8,8 +11,6 @@ use native.Mathlib.Numerals.{add-one}
 use borrow.Author.Tests.{eq-eqb}
 use lib.ListN.{length}
 use Rattle.field.specs.declared.Vec3.{Vec3}
-use Rattle.field.specs.declared.Place.{Place}
-use Rattle.field.specs.declared.Place.TheVariants.{At, Nowhere}
 use Rattle.field.specs.Vec.{at, origin}
 use Rattle.field.specs.Count.{lowest}
 use Rattle.field.proofs.Counting.{length-field, get_or-field, upto-invariant}
@@ -39,7 +40,7 @@ pub record EndedAt (P : Problem) (k : ℕ) (s : State) : Type 0 where
 abbrev pub Reached : (P : Problem) → ℕ → Run → Type 0
 Reached P k (running s) = RunningAt P k s
 Reached P k (ended s) = EndedAt P k s
-Reached P k (failed n i) = Unit
+Reached P k (failed r) = Unit
 
 module _ (P : Problem) (S : Regular P) where
   start-kept : Shaped P (start P)
@@ -72,15 +73,15 @@ module _ (P : Problem) (S : Regular P) where
   unfolding redirected
   redirected-running k s z new g = record { kept = redirected-kept s z new g.kept; count = g.count; active = g.active }
 
-  unless-reached : (k : ℕ) (p : Place) (n : ℕ) (r : Run) → Reached P k r → Reached P k (unless p n r)
-  unless-reached k (At i) n r h = tt
-  unless-reached k Nowhere n r h = h
+  unless-reached : (k : ℕ) (p : Option ℕ) (n : Cause) (r : Run) → Reached P k r → Reached P k (unless p n r)
+  unless-reached k (Some i) n r h = tt
+  unless-reached k None n r h = h
 
   continued-reached : (k : ℕ) (s : State) (b : Bool) → any s.round.active ≡ b → Shaped P s → s.round.count ≡ k → Reached P k (continued P b s)
   continued-reached k s true e q c =
       let z = precondition P s.residual in
       let new = inner P s.residual z in
-      unless-reached k (component (bad_product s.round.active s.round.old new)) 12 (running (redirected P s z new))
+      unless-reached k (component (bad_product s.round.active s.round.old new)) Product (running (redirected P s z new))
       (redirected-running k s z new (record { kept = q; count = c; active = e }))
   continued-reached k s false e q c = record { kept = q; count = omega arith; done = e }
 
@@ -90,18 +91,18 @@ module _ (P : Problem) (S : Regular P) where
       let w = P.operator s.search in
       let c = inner P s.search w in
       let t = moved P s w c in
-      unless-reached (suc k) (component (bad_curvature s.round.active s.round.old c)) 11 (continued P (any t.round.active) t)
+      unless-reached (suc k) (component (bad_curvature s.round.active s.round.old c)) Curvature (continued P (any t.round.active) t)
       (continued-reached (suc k) t (any t.round.active) refl (moved-kept s w c g.kept) (moved-count s w c ∙ rw add-one (ap suc g.count)))
 
   next-reached : (k : ℕ) (r : Run) → Reached P k r → Reached P (suc k) (next P r)
   next-reached k (running s) g = round-reached k s g
   next-reached k (ended s) e = record { kept = e.kept; count = omega arith; done = e.done }
-  next-reached k (failed n i) t = tt
+  next-reached k (failed r) t = tt
 
-  opened-reached : (p : Place) → Reached P 0 (opened P p)
+  opened-reached : (p : Option ℕ) → Reached P 0 (opened P p)
   unfolding start
-  opened-reached (At i) = tt
-  opened-reached Nowhere = go (any (start P).round.active) refl
+  opened-reached (Some i) = tt
+  opened-reached None = go (any (start P).round.active) refl
     where
       go : (b : Bool) → any (start P).round.active ≡ b → Reached P 0 (cond b (running (start P)) (ended (start P)))
       go true e = record { kept = start-kept; count = refl; active = e }

@@ -1,4 +1,5 @@
 -- The rounds one after another, from what the calls ensure. Assumes nothing.
+use Rattle.std.proofs.Common.{None, Option, Some}
 use mathlib.Core.Path.{ap, refl, subst, sym, ◌∙◌, ◌≡◌}
 use mathlib.Core.List.{List}
 use mathlib.Core.Bool.{Bool, false, true}
@@ -8,19 +9,19 @@ use native.Mathlib.Omega.{arith}
 use lib.Ieee.{Float}
 use Rattle.field.proofs.Counting.{upto_add, upto-invariant, upto-suc, upto_zero}
 use Rattle.field.specs.Count.{upto}
-use Rattle.field.specs.declared.Place.{Place}
-use Rattle.field.specs.declared.Place.TheVariants.{At, Nowhere}
-use Rattle.network.specs.Network.{Links, links}
+use Rattle.network.specs.Network.{Links}
 use Rattle.network.specs.declared.Shape.{Shape}
-use Rattle.system.specs.Work.{matrix_at}
 use Rattle.field.specs.declared.Vec3.{Vec3}
-use lib.ListN.{length}
 use Rattle.iterative.proofs.Kept.{kept_same, kept_then, problem-in-kept}
 use Rattle.iterative.specs.Method.{Run, State, any, bad_curvature, bound_of, bad_product, component, continued, ended, failed, inner, moved, next, precondition, redirected, round, running, unless}
 use Rattle.iterative.specs.Problem.{Problem, most_rounds}
+use Rattle.std.proofs.Common.{Err, Ok, Result}
+use Rattle.network.specs.declared.Cause.{Cause}
+use Rattle.network.specs.declared.Cause.TheVariants.{Curvature, Product}
+use Rattle.network.specs.declared.Refusal.{Refusal}
 use Rattle.iterative.specs.declared.Round.{Round}
 use Rattle.iterative.specs.declared.Step.{Step}
-use Rattle.iterative.specs.declared.Step.TheVariants.{Ended, Failed, Running}
+use Rattle.iterative.specs.declared.Step.TheVariants.{Ended, Running}
 use Rattle.iterative.specs.inner.Solver.{Iterated, Rounded, SystemKept, begun, problem_in, right_sums, rounds_from, run_in, state_in}
 
 -- ---- a round that goes on is counted
@@ -28,12 +29,12 @@ use Rattle.iterative.specs.inner.Solver.{Iterated, Rounded, SystemKept, begun, p
 count_of : Run → ℕ → ℕ
 count_of (running s) d = s.round.count
 count_of (ended s) d = d
-count_of (failed k i) d = d
+count_of (failed r) d = d
 
-count_unless : (p : Place) (k : ℕ) (x : Run) (d : ℕ) → count_of x d ≡ d → count_of (unless p k x) d ≡ d
+count_unless : (p : Option ℕ) (k : Cause) (x : Run) (d : ℕ) → count_of x d ≡ d → count_of (unless p k x) d ≡ d
 unfolding count_of
-count_unless (At i) k x d h = refl
-count_unless Nowhere k x d h = h
+count_unless (Some i) k x d h = refl
+count_unless None k x d h = h
 
 module _ (P : Problem) where
   count-continued : (b : Bool) (s : State) → count_of (continued P b s) s.round.count ≡ s.round.count
@@ -41,7 +42,7 @@ module _ (P : Problem) where
   count-continued true s =
       let z = precondition P s.residual in
       let new = inner P s.residual z in
-      count_unless (component (bad_product s.round.active s.round.old new)) 12 (running (redirected P s z new)) s.round.count refl
+      count_unless (component (bad_product s.round.active s.round.old new)) Product (running (redirected P s z new)) s.round.count refl
   count-continued false s = refl
 
   count-round : (s : State) → count_of (round P s) (s.round.count + 1) ≡ s.round.count + 1
@@ -49,7 +50,7 @@ module _ (P : Problem) where
   count-round s =
       let curvature = inner P s.search (P.operator s.search) in
       let t = moved P s (P.operator s.search) curvature in
-      count_unless (component (bad_curvature s.round.active s.round.old curvature)) 11 (continued P (any t.round.active) t) (s.round.count + 1)
+      count_unless (component (bad_curvature s.round.active s.round.old curvature)) Curvature (continued P (any t.round.active) t) (s.round.count + 1)
       (count-continued (any t.round.active) t)
 
   counted : (s t : State) → round P s ≡ running t → t.round.count ≡ s.round.count + 1
@@ -74,41 +75,27 @@ module _ (P : Problem) where
 
 -- ---- the loop over the rounds: the record r and the buffer l1 after k of them, from the record `first` and the buffer l
 
-pub record Rounds (s : Shape) (ends offsets listed : List ℕ) (a : ℕ) (l : List Float) (first : Round) (k : ℕ) (l1 : List Float) (r : Round) : Type 0 where
+pub record Rounds (L : Links) (a : ℕ) (l : List Float) (first : Round) (k : ℕ) (l1 : List Float) (r : Round) : Type 0 where
   pub count : r.count ≡ k
-  pub run : rounds_from (problem_in (links s ends offsets listed) a l) k (running (state_in s l first)) ≡ running (state_in s l1 r)
-  pub kept : SystemKept s l l1
+  pub run : rounds_from (problem_in L a l) k (running (state_in L.shape l first)) ≡ running (state_in L.shape l1 r)
+  pub kept : SystemKept L.shape l l1
 
-module _ (s : Shape) (ends offsets listed : List ℕ) (a : ℕ) (l : List Float) (first : Round) where
-  abbrev L : Links
-  L = links s ends offsets listed
+module _ (L : Links) (a : ℕ) (l : List Float) (first : Round) where
+  abbrev s : Shape
+  s = L.shape
 
   abbrev P : Problem
   P = problem_in L a l
 
-  pub rounds-none : first.count ≡ 0 → Rounds s ends offsets listed a l first 0 l first
+  pub rounds-none : first.count ≡ 0 → Rounds L a l first 0 l first
   unfolding rounds_from
   rounds-none h = record { count = h; run = upto_zero _ _; kept = kept_same s l }
 
-  -- what a round needs of the ones before
-  module _ (l1 : List Float) (r : Round) (k : ℕ) (R : Rounds s ends offsets listed a l first k l1 r) where
-    pub rounds-bound : (bound : Vec3) → bound ≡ bound_of (right_sums s a l) → bound ≡ bound_of (right_sums s a l1)
-    rounds-bound bound e = e ∙ rw R.kept.right
-
-    pub rounds-room : matrix_at s ≤ length l → matrix_at s ≤ length l1
-    rounds-room h = rw R.kept.outside.size h
-
-    pub rounds-size : length l1 ≡ length l
-    rounds-size = R.kept.outside.size
-
-    pub rounds-count : (m : ℕ) → k < m → m ≤ 4000 → r.count < 4000
-    rounds-count m h b = rw R.count (omega arith)
-
-  module _ (l1 l2 : List Float) (r : Round) (k : ℕ) (x : Step) (R : Rounds s ends offsets listed a l first k l1 r) (D : Rounded s (problem_in (links s ends offsets listed) a l1) r l1 l2 x) where
+  module _ (l1 l2 : List Float) (r : Round) (k : ℕ) (x : Result Step Refusal) (R : Rounds L a l first k l1 r) (D : Rounded s (problem_in L a l1) r l1 l2 x) where
     own : Rounded s P r l1 l2 x
     own = subst (λ (Q : Problem). Rounded s Q r l1 l2 x) (problem-in-kept L a l l1 R.kept) D
 
-    pub rounds-next : (t : Round) → x ≡ Running t → Rounds s ends offsets listed a l first (k + 1) l2 t
+    pub rounds-next : (t : Round) → x ≡ Ok (Running t) → Rounds L a l first (k + 1) l2 t
     rounds-next t e =
         let q : running (state_in s l2 t) ≡ round P (state_in s l1 r) = rw e at own.run in
         record {
@@ -117,34 +104,27 @@ module _ (s : Shape) (ends offsets listed : List ℕ) (a : ℕ) (l : List Float)
           kept = kept_then R.kept own.kept;
         }
 
-    pub stopped-size : length l2 ≡ length l
-    stopped-size = own.kept.outside.size ∙ R.kept.outside.size
-
     -- a round that does not go on
-    over : (m : ℕ) → k < m → (y : Step) → x ≡ y → next P (run_in s l2 y) ≡ run_in s l2 y → run_in s l2 y ≡ rounds_from P m (running (state_in s l first))
+    over : (m : ℕ) → k < m → (y : Result Step Refusal) → x ≡ y → next P (run_in s l2 y) ≡ run_in s l2 y → run_in s l2 y ≡ rounds_from P m (running (state_in s l first))
     over m h y e f = sym (rounds-stay P (k + 1) m _ (run_in s l2 y) f (rounds-more P k _ (run_in s l2 y) (state_in s l1 r) R.run (rw e at own.run)) (omega arith))
 
-    stopped : (m : ℕ) → m ≡ most_rounds s.cameras → k < m → (y : Step) → x ≡ y → next P (run_in s l2 y) ≡ run_in s l2 y → Iterated s P (running (state_in s l first)) l l2 x
+    stopped : (m : ℕ) → m ≡ most_rounds s.cameras → k < m → (y : Result Step Refusal) → x ≡ y → next P (run_in s l2 y) ≡ run_in s l2 y → Iterated s P (running (state_in s l first)) l l2 x
     stopped m em h y e f = record { run = rw (← em, e) (over m h y e f); kept = kept_then R.kept own.kept }
 
-    pub rounds-failed : (m i j : ℕ) → m ≡ most_rounds s.cameras → k < m → x ≡ Failed i j → Iterated s P (running (state_in s l first)) l l2 x
-    rounds-failed m i j em h e = stopped m em h (Failed i j) e refl
+    pub rounds-failed : (m : ℕ) {q : Refusal} → m ≡ most_rounds s.cameras → k < m → x ≡ Err q → Iterated s P (running (state_in s l first)) l l2 (Err q)
+    rounds-failed m {q} em h e = let I = stopped m em h (Err q) e refl in record { run = rw e at I.run; kept = I.kept }
 
-    pub rounds-done : (m : ℕ) (t : Round) → m ≡ most_rounds s.cameras → k < m → x ≡ Ended t → Iterated s P (running (state_in s l first)) l l2 x
-    rounds-done m t em h e = stopped m em h (Ended t) e refl
-
-  pub rounds-ended : (l1 : List Float) (r : Round) (k m : ℕ) → Rounds s ends offsets listed a l first k l1 r → m ≡ most_rounds s.cameras → k ≤ m → m ≤ k →
-      Iterated s P (running (state_in s l first)) l l1 (Running r)
-  rounds-ended l1 r k m R e b c = let q : k ≡ most_rounds s.cameras = omega arith in record { run = sym (rw q at R.run); kept = R.kept }
+    pub rounds-done : (m : ℕ) (t : Round) → m ≡ most_rounds s.cameras → k < m → x ≡ Ok (Ended t) → Iterated s P (running (state_in s l first)) l l2 (Ok (Ended t))
+    rounds-done m t em h e = let I = stopped m em h (Ok (Ended t)) e refl in record { run = rw e at I.run; kept = I.kept }
 
   -- ---- with a first round, or none
 
   pub bound-right : (sums bound : Vec3) → bound ≡ bound_of sums → sums ≡ right_sums s a l → bound ≡ bound_of (right_sums s a l)
   bound-right sums bound e f = rw (e, f)
 
-  pub iterated-begun : (b : Bool) (l1 : List Float) (x : Step) → b ≡ any first.active → b ≡ true → Iterated s P (running (state_in s l first)) l l1 x →
+  pub iterated-begun : (b : Bool) (l1 : List Float) (x : Result Step Refusal) → b ≡ any first.active → b ≡ true → Iterated s P (running (state_in s l first)) l l1 x →
       Iterated s P (begun (state_in s l first)) l l1 x
   iterated-begun b l1 x e h I = let q : any first.active ≡ true = sym e ∙ h in record { run = rw q I.run; kept = I.kept }
 
-  pub iterated-none : (b : Bool) → b ≡ any first.active → b ≡ false → Iterated s P (begun (state_in s l first)) l l (Ended first)
+  pub iterated-none : (b : Bool) → b ≡ any first.active → b ≡ false → Iterated s P (begun (state_in s l first)) l l (Ok (Ended first))
   iterated-none b e h = let q : any first.active ≡ false = sym e ∙ h in record { run = rw q (sym (rounds-over P (most_rounds s.cameras) (ended (state_in s l first)) refl)); kept = kept_same s l }

@@ -1,4 +1,10 @@
 -- The start, the end, and the whole solve, from what the calls ensure. Assumes nothing.
+use Rattle.std.proofs.Common.{Err, Ok, Result}
+use Rattle.network.specs.declared.Cause.TheVariants.{Diagonal, Residual}
+use Rattle.network.specs.Refusals.{Verdict, test_at}
+use Rattle.network.specs.declared.Refusal.{Refusal}
+use Rattle.iterative.proofs.Refused.{tested-refused, opened-refused}
+use Rattle.std.proofs.Common.{None, Option, Some}
 use mathlib.Core.Path.{ap, refl, subst, sym, ◌∙◌, ◌≡◌}
 use mathlib.Core.Logic.{inr}
 use mathlib.Core.Bool.{Bool}
@@ -10,10 +16,8 @@ use lib.Ieee.{Float}
 use Rattle.field.proofs.Counting.{length-field}
 use Rattle.field.specs.Buffer.{load, store, vector}
 use Rattle.field.specs.Count.{field, lowest}
-use Rattle.field.specs.declared.Place.{Place}
-use Rattle.field.specs.declared.Place.TheVariants.{At, Nowhere}
 use Rattle.field.specs.declared.Vec3.{Vec3}
-use Rattle.network.specs.Network.{Links, Network, links, links_of}
+use Rattle.network.specs.Network.{Links, Network, links_of}
 use Rattle.network.specs.inner.Sound.{LinksSound}
 use Rattle.network.specs.declared.Shape.{Shape}
 use Rattle.system.specs.System.{anchor, terms, weights_of, diagonal_of}
@@ -23,7 +27,7 @@ use Rattle.operator.proofs.Buffered.{reduced-held, weights-kept}
 use Rattle.operator.proofs.OperatorLaws.{by_length}
 use Rattle.operator.specs.Operator.{reduced_by}
 use Rattle.operator.specs.inner.Applied.{reduced_in}
-use Rattle.iterative.proofs.Kept.{kept_store, kept_then, other-field, outside-same, outside-then, own-field, placed_same, problem-in-kept}
+use Rattle.iterative.proofs.Kept.{kept_store, kept_then, other-field, outside-same, outside-then, own-field, problem-in-kept}
 use Rattle.iterative.proofs.Opening.{opened-fields, opened-outside}
 use Rattle.iterative.proofs.Running.{rounds-over}
 use Rattle.iterative.specs.Method.{Run, State, accepted, accepted_unless, allowed, allowed_of, bad_diagonal, bad_residual, bound_of, closed, component, difference, ended, failed}
@@ -32,11 +36,9 @@ use Rattle.iterative.specs.Opening.{Each, Opened, segments_of}
 use Rattle.iterative.specs.Problem.{Problem, field_dot, most_rounds}
 use Rattle.iterative.specs.Reduced.{problem, problem_by, right_of}
 use Rattle.iterative.specs.declared.Active.{Active}
-use Rattle.iterative.specs.declared.Outcome.{Outcome}
-use Rattle.iterative.specs.declared.Outcome.TheVariants.{Failed as NotPlaced, Placed}
 use Rattle.iterative.specs.declared.Round.{Round}
 use Rattle.iterative.specs.declared.Step.{Step}
-use Rattle.iterative.specs.declared.Step.TheVariants.{Ended, Failed, Running}
+use Rattle.iterative.specs.declared.Step.TheVariants.{Ended, Running}
 use Rattle.iterative.specs.inner.Solver.{Concluded, Iterated, IterativeSolved, Outside, Settled, Started, Tested, answer_of, begun}
 use Rattle.iterative.specs.inner.Solver.{problem_in, right_sums, rounds_from, run_in, state_in}
 
@@ -62,20 +64,21 @@ module _ (s : Shape) (a : ℕ) (l l1 : List Float) (v : Vec3) (r : Round) (room 
 
 -- ---- the end
 
-pub settled : (s : Shape) (ends offsets listed : List ℕ) (a p q r : ℕ) (l l1 l2 : List Float) (v : Vec3) → matrix_at s ≤ length l →
-    p ≡ positions_at s → q ≡ applied_at s → r ≡ right_at s →
-    l1 ≡ reduced_in (links s ends offsets listed) a p q l →
-    l2 ≡ store vector l1 q (difference s.cameras (load vector l1 q s.cameras) (load vector l1 r s.cameras)) →
-    v ≡ field_dot s.cameras a (load vector l2 q s.cameras) (load vector l2 q s.cameras) →
-    Settled s (problem_in (links s ends offsets listed) a l) l l2 v
+-- z and b are the shape and the anchor as they were read
+pub settled : (L : Links) (z : Shape) (a b p q r : ℕ) (l l1 l2 : List Float) (v : Vec3) → z ≡ L.shape → b ≡ a → matrix_at L.shape ≤ length l →
+    p ≡ positions_at z → q ≡ applied_at z → r ≡ right_at z →
+    l1 ≡ reduced_in L a p q l →
+    l2 ≡ store vector l1 q (difference z.cameras (load vector l1 q z.cameras) (load vector l1 r z.cameras)) →
+    v ≡ field_dot z.cameras b (load vector l2 q z.cameras) (load vector l2 q z.cameras) →
+    Settled L.shape (problem_in L a l) l l2 v
 unfolding residual_of
-settled s ends offsets listed a p q r l l1 l2 v room ep eq er f1 f2 f3 =
+settled L z a b p q r l l1 l2 v ez eb room ep eq er f1 f2 f3 =
+    let s = L.shape in
     let n = s.cameras in
-    let L = links s ends offsets listed in
     let w = reduced_by L (weights_in s l) a (load vector l (positions_at s) n) in
-    let e1 : l1 ≡ store vector l (applied_at s) w = rw (ep, eq) at f1 in
-    let e2 : l2 ≡ store vector l1 (applied_at s) (difference n (load vector l1 (applied_at s) n) (load vector l1 (right_at s) n)) = rw (eq, er) at f2 in
-    let e : v ≡ field_dot n a (load vector l2 (applied_at s) n) (load vector l2 (applied_at s) n) = rw eq at f3 in
+    let e1 : l1 ≡ store vector l (applied_at s) w = rw (ep, eq, ez) at f1 in
+    let e2 : l2 ≡ store vector l1 (applied_at s) (difference n (load vector l1 (applied_at s) n) (load vector l1 (right_at s) n)) = rw (eq, er, ez) at f2 in
+    let e : v ≡ field_dot n a (load vector l2 (applied_at s) n) (load vector l2 (applied_at s) n) = rw (eq, ez, eb) at f3 in
     let s1 : length w ≡ n = by_length L _ a _ in
     let s2 : length (difference n (load vector l1 (applied_at s) n) (load vector l1 (right_at s) n)) ≡ n = length-field n _ in
     let to = kept_store s l _ _ l1 e1 s1 (omega arith) (omega arith) (inr (omega arith)) in
@@ -91,58 +94,56 @@ settled s ends offsets listed a p q r l l1 l2 v room ep eq er f1 f2 f3 =
     }
 
 -- the final test: the square sums are the method's
-pub tested-done : (s : Shape) (ends offsets listed : List ℕ) (a : ℕ) (l l' : List Float) (sums bound v : Vec3) (r : Place) → let P = problem_in (links s ends offsets listed) a l in
+pub tested-done : (L : Links) (a : ℕ) (l l' : List Float) (sums bound v : Vec3) (r : Option ℕ) → let s = L.shape in let P = problem_in L a l in
     sums ≡ right_sums s a l → bound ≡ allowed_of sums → Settled s P l l' v → r ≡ component (bad_residual bound v) → Tested s P l l' r
 unfolding square_sum
-tested-done s ends offsets listed a l l' sums bound v r e f S g = record { place = g ∙ rw (f, e, S.residual); kept = S.kept }
+tested-done L a l l' sums bound v r e f S g = record { place = g ∙ rw (f, e, S.residual); kept = S.kept }
 
-module _ (s : Shape) (P : Problem) (l l' : List Float) (p : Place) (r : Round) (T : Tested s P l l' p) where
-  pub judged-failed : (i : ℕ) → p ≡ At i → Concluded s P (ended (state_in s l r)) l l' (NotPlaced 13 i)
-  judged-failed i e = let q : component (bad_residual (allowed P) (residual_of P (positions_in s l))) ≡ At i = sym T.place ∙ e in record { answer = rw q; kept = T.kept }
+module _ (s : Shape) (P : Problem) (l l' : List Float) (p : Option ℕ) (r : Round) (T : Tested s P l l' p) where
+  pub judged-failed : {v : Verdict} {q : Refusal} → v ≡ test_at Residual p → v ≡ Err q → Concluded s P (ended (state_in s l r)) l l' (Err q)
+  judged-failed t h = record { answer = rw (← T.place) (sym (ap answer_of (tested-refused p (state_in s l r) t h))); kept = T.kept }
 
-  pub judged-placed : p ≡ Nowhere → Concluded s P (ended (state_in s l r)) l l' (Placed r.count)
-  judged-placed e = let q : component (bad_residual (allowed P) (residual_of P (positions_in s l))) ≡ Nowhere = sym T.place ∙ e in record { answer = rw q; kept = T.kept }
+  pub judged-placed : p ≡ None → Concluded s P (ended (state_in s l r)) l l' (Ok r.count)
+  judged-placed e = let q : component (bad_residual (allowed P) (residual_of P (positions_in s l))) ≡ None = sym T.place ∙ e in record { answer = rw q; kept = T.kept }
 
 -- the ways in which the rounds leave a run
 module _ (s : Shape) (P : Problem) (l : List Float) (x : Step) where
-  pub concluded-failed : (k i : ℕ) → x ≡ Failed k i → Concluded s P (run_in s l x) l l (NotPlaced k i)
-  concluded-failed k i e = rw e (record { answer = refl; kept = placed_same s l })
-
-  pub concluded-running : (r : Round) (l' : List Float) (o : Outcome) → x ≡ Running r → Concluded s P (ended (state_in s l r)) l l' o → Concluded s P (run_in s l x) l l' o
+  pub concluded-running : (r : Round) (l' : List Float) (o : Result ℕ Refusal) → x ≡ Running r → Concluded s P (ended (state_in s l r)) l l' o → Concluded s P (run_in s l (Ok x)) l l' o
   concluded-running r l' o e C = rw e (record { answer = C.answer; kept = C.kept })
 
-  pub concluded-ended : (r : Round) (l' : List Float) (o : Outcome) → x ≡ Ended r → Concluded s P (ended (state_in s l r)) l l' o → Concluded s P (run_in s l x) l l' o
+  pub concluded-ended : (r : Round) (l' : List Float) (o : Result ℕ Refusal) → x ≡ Ended r → Concluded s P (ended (state_in s l r)) l l' o → Concluded s P (run_in s l (Ok x)) l l' o
   concluded-ended r l' o e C = rw e C
 
 -- ---- the whole solve
 
-accepted-positions : (p : Place) (t s : State) → accepted_unless p t ≡ accepted s → t.positions ≡ s.positions
-accepted-positions (At i) t s e = let z : ◌≡◌ {A = ℕ} 0 1 = cc in absurd (omega arith)
-accepted-positions Nowhere t s e = let q : t ≡ s = cc in ap (λ (v : State). v.positions) q
+accepted-positions : (p : Option ℕ) (t s : State) → accepted_unless p t ≡ accepted s → t.positions ≡ s.positions
+accepted-positions (Some i) t s e = let z : ◌≡◌ {A = ℕ} 0 1 = cc in absurd (omega arith)
+accepted-positions None t s e = let q : t ≡ s = cc in ap (λ (v : State). v.positions) q
 
-closed-positions : (P : Problem) (s : Shape) (l : List Float) (x : Step) (t : State) → closed P (run_in s l x) ≡ accepted t → positions_in s l ≡ t.positions
-closed-positions P s l (Failed k i) t e = let z : ◌≡◌ {A = ℕ} 0 1 = cc in absurd (omega arith)
-closed-positions P s l (Running r) t e = accepted-positions (component (bad_residual (allowed P) (residual_of P (positions_in s l)))) (state_in s l r) t e
-closed-positions P s l (Ended r) t e = accepted-positions (component (bad_residual (allowed P) (residual_of P (positions_in s l)))) (state_in s l r) t e
+closed-positions : (P : Problem) (s : Shape) (l : List Float) (x : Result Step Refusal) (t : State) → closed P (run_in s l x) ≡ accepted t → positions_in s l ≡ t.positions
+closed-positions P s l (Err r) t e = let z : ◌≡◌ {A = ℕ} 0 1 = cc in absurd (omega arith)
+closed-positions P s l (Ok (Running r)) t e = accepted-positions (component (bad_residual (allowed P) (residual_of P (positions_in s l)))) (state_in s l r) t e
+closed-positions P s l (Ok (Ended r)) t e = accepted-positions (component (bad_residual (allowed P) (residual_of P (positions_in s l)))) (state_in s l r) t e
 
-module _ (s : Shape) (ends offsets listed : List ℕ) (a : ℕ) (l : List Float) where
+module _ (L : Links) (a : ℕ) (l : List Float) where
+  abbrev s : Shape
+  s = L.shape
+
   abbrev n : ℕ
   n = s.cameras
-
-  abbrev L : Links
-  L = links s ends offsets listed
 
   abbrev own : Problem
   own = problem_by L (weights_in s l) (load term l 0 n) a
 
   -- the place that the search for a bad diagonal finds is the method's
-  found-is : (p : Place) → lowest (bad_diagonal a (diagonal_of (load term l 0 n))) n ≡ p → solution own ≡ closed own (rounds_from own (most_rounds n) (opened own p))
+  found-is : (p : Option ℕ) → lowest (bad_diagonal a (diagonal_of (load term l 0 n))) n ≡ p → solution own ≡ closed own (rounds_from own (most_rounds n) (opened own p))
   unfolding solution rounds rounds_from problem_by
   found-is p e = rw (← e)
 
-  pub solved-bad : (p : Place) (i : ℕ) → p ≡ lowest (bad_diagonal a (diagonal_of (load term l 0 n))) n → p ≡ At i → IterativeSolved s own l l (NotPlaced 9 i)
-  solved-bad p i e h =
-      let q : solution own ≡ refused 9 i = found-is (At i) (sym e ∙ h) ∙ rw (rounds-over own (most_rounds n) (failed 9 i) refl) in
+  pub solved-bad : (p : Option ℕ) {v : Verdict} {z : Refusal} → p ≡ lowest (bad_diagonal a (diagonal_of (load term l 0 n))) n → v ≡ test_at Diagonal p → v ≡ Err z →
+      IterativeSolved s own l l (Err z)
+  solved-bad p {z = z} e t h =
+      let q : solution own ≡ refused z = found-is p (sym e) ∙ rw (opened-refused own p t h, rounds-over own (most_rounds n) (failed z) refl) in
       record {
         answer = sym (ap answer_of q);
         positions = λ t u. let z : ◌≡◌ {A = ℕ} 0 1 = cc (q, u) in absurd (omega arith);
@@ -175,32 +176,46 @@ module _ (s : Shape) (ends offsets listed : List ℕ) (a : ℕ) (l : List Float)
           round = record { old = S.opened.old i; active = e i; count = S.count i };
         }
 
-  pub solved-run : (l1 l2 l3 : List Float) (sums : Vec3) (first : Round) (x : Step) (o : Outcome) →
-      lowest (bad_diagonal a (diagonal_of (load term l 0 n))) n ≡ Nowhere → matrix_at s ≤ length l → Started s a l l1 sums first →
-      Iterated s (problem_in (links s ends offsets listed) a l1) (begun (state_in s l1 first)) l1 l2 x →
-      Concluded s (problem_in (links s ends offsets listed) a l2) (run_in s l2 x) l2 l3 o →
-      IterativeSolved s own l l3 o
-  solved-run l1 l2 l3 sums first x o e room S I0 C0 =
-      let p1 : problem_in L a l1 ≡ own = started-problem l1 sums first room S in
-      let I : Iterated s own (begun (state_in s l1 first)) l1 l2 x = subst (λ (Q : Problem). Iterated s Q (begun (state_in s l1 first)) l1 l2 x) p1 I0 in
-      let p2 : problem_in L a l2 ≡ own = problem-in-kept L a l1 l2 I.kept ∙ p1 in
-      let C : Concluded s own (run_in s l2 x) l2 l3 o = subst (λ (Q : Problem). Concluded s Q (run_in s l2 x) l2 l3 o) p2 C0 in
-      let b : begun (state_in s l1 first) ≡ begun (start own) = ap begun (started-state l1 sums first room S) in
-      let q : solution own ≡ closed own (run_in s l2 x) = found-is Nowhere e ∙ sym (ap (closed own) (I.run ∙ ap (rounds_from own (most_rounds n)) b)) in
-      record {
-        answer = C.answer ∙ sym (ap answer_of q);
-        positions = λ t u. C.kept.positions ∙ closed-positions own s l2 x t (sym q ∙ u);
-        outside = outside-then (started-outside s a l l1 sums first room S) (outside-then I.kept.outside C.kept.kept.outside);
-      }
+    -- the rounds made: the method's answer, by how they ended
+    module _ (l2 : List Float) (y : Result Step Refusal) (bad : lowest (bad_diagonal a (diagonal_of (load term l 0 n))) n ≡ None)
+        (I0 : Iterated s (problem_in L a l1) (begun (state_in s l1 first)) l1 l2 y) where
+      own-rounds : Iterated s own (begun (state_in s l1 first)) l1 l2 y
+      own-rounds = subst (λ (Q : Problem). Iterated s Q (begun (state_in s l1 first)) l1 l2 y) started-problem I0
 
-pub none-bad : (p : Place) (f : ℕ → Bool) (n : ℕ) → p ≡ lowest f n → p ≡ Nowhere → lowest f n ≡ Nowhere
+      solution-is : solution own ≡ closed own (run_in s l2 y)
+      solution-is = found-is None bad ∙ sym (ap (closed own) (own-rounds.run ∙ ap (rounds_from own (most_rounds n)) (ap begun started-state)))
+
+      rounds-outside : Outside s l l2
+      rounds-outside = outside-then (started-outside s a l l1 sums first room S) own-rounds.kept.outside
+
+      pub solved-failed : {q : Refusal} → y ≡ Err q → IterativeSolved s own l l2 (Err q)
+      solved-failed {q} h =
+          let e : solution own ≡ refused q = solution-is ∙ rw h in
+          record {
+            answer = sym (ap answer_of e);
+            positions = λ t u. let z : ◌≡◌ {A = ℕ} 0 1 = cc (e, u) in absurd (omega arith);
+            outside = rounds-outside;
+          }
+
+      pub solved-run : (l3 : List Float) (x : Step) (o : Result ℕ Refusal) → y ≡ Ok x → Concluded s (problem_in L a l2) (run_in s l2 (Ok x)) l2 l3 o → IterativeSolved s own l l3 o
+      solved-run l3 x o h C0 =
+          let p : problem_in L a l2 ≡ own = problem-in-kept L a l1 l2 own-rounds.kept ∙ started-problem in
+          let C : Concluded s own (run_in s l2 (Ok x)) l2 l3 o = subst (λ (Q : Problem). Concluded s Q (run_in s l2 (Ok x)) l2 l3 o) p C0 in
+          let q : solution own ≡ closed own (run_in s l2 (Ok x)) = solution-is ∙ rw h in
+          record {
+            answer = C.answer ∙ sym (ap answer_of q);
+            positions = λ t u. C.kept.positions ∙ closed-positions own s l2 (Ok x) t (sym q ∙ u);
+            outside = outside-then rounds-outside C.kept.kept.outside;
+          }
+
+pub none-bad : (p : Option ℕ) (f : ℕ → Bool) (n : ℕ) → p ≡ lowest f n → p ≡ None → lowest f n ≡ None
 none-bad p f n e h = sym e ∙ h
 
 -- what the rounds and the end need of the calls before
-pub iterated-room : (s : Shape) (P : Problem) (x : Run) (l1 l2 : List Float) (t : Step) → Iterated s P x l1 l2 t → matrix_at s ≤ length l1 → matrix_at s ≤ length l2
+pub iterated-room : (s : Shape) (P : Problem) (x : Run) (l1 l2 : List Float) (t : Result Step Refusal) → Iterated s P x l1 l2 t → matrix_at s ≤ length l1 → matrix_at s ≤ length l2
 iterated-room s P x l1 l2 t I h = rw I.kept.outside.size h
 
-pub iterated-sums : (s : Shape) (P : Problem) (x : Run) (l1 l2 : List Float) (t : Step) (a : ℕ) (v : Vec3) → Iterated s P x l1 l2 t → v ≡ right_sums s a l1 → v ≡ right_sums s a l2
+pub iterated-sums : (s : Shape) (P : Problem) (x : Run) (l1 l2 : List Float) (t : Result Step Refusal) (a : ℕ) (v : Vec3) → Iterated s P x l1 l2 t → v ≡ right_sums s a l1 → v ≡ right_sums s a l2
 iterated-sums s P x l1 l2 t a v I h = h ∙ rw I.kept.right
 
 -- where the network's system stands in the buffer, the problem is the network's

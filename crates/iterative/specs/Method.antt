@@ -6,19 +6,21 @@
 --     w = A p, α = ρ / p·w, x = x + α p, r = r - α w                              `moved`
 --     z = M⁻¹ r, β = (r·z) / ρ, p = z + β p, ρ = r·z, while r·r is above a bound  `redirected`
 -- Here x is `positions`, b `right`, r `residual`, z `preconditioned`, p `search`, w `applied`, ρ `old` and then `new`, and p·w is the curvature.
+use Rattle.std.specs.Prelude.{None, Option, Some}
 use Rattle.std.specs.Prelude.{List, Bool, cond, false, not, true, ◌&&◌, ◌||◌, suc, zero, ℕ, ◌+◌, eqb, Float}
 use Rattle.std.specs.Float.Ieee.{add, div, le, lt, mul, of_bits, sub}
 use Rattle.std.specs.Float.{binary64}
 use Rattle.std.specs.Float.Ieee.Scale.{finite}
 use Rattle.field.specs.Count.{field, lowest, upto}
 use Rattle.field.specs.Vec.{Axis, X, Y, Z, at, each, minus, null, on, origin, over}
-use Rattle.field.specs.declared.Place.{Place}
-use Rattle.field.specs.declared.Place.TheVariants.{At, Nowhere}
 use Rattle.field.specs.declared.Vec3.{Vec3}
 use Rattle.double.specs.Double.{greater, magnitude}
 use Rattle.sqrt.specs.Root.{root}
 use Rattle.system.specs.System.{tiny}
 use Rattle.iterative.specs.Problem.{Problem, field_dot, most_rounds}
+use Rattle.network.specs.declared.Cause.{Cause}
+use Rattle.network.specs.declared.Cause.TheVariants.{Curvature, Diagonal, Product, Residual}
+use Rattle.network.specs.declared.Refusal.{Refusal}
 use Rattle.iterative.specs.declared.Active.{Active}
 use Rattle.iterative.specs.declared.Round.{Round}
 
@@ -39,7 +41,7 @@ axis (suc zero) = Y
 axis (suc (suc i)) = Z
 
 -- the lowest component with a property
-abbrev pub component : (Axis → Bool) → Place
+abbrev pub component : (Axis → Bool) → Option ℕ
 component p = lowest (λ i. p (axis i)) 3
 
 abbrev pub flag : Axis → Active → Bool
@@ -149,26 +151,26 @@ pub record State : Type 0 where
   pub search : List Vec3
   pub round : Round
 
--- after a round: a component is active still, or none is, or the method failed with number and place
+-- after a round: a component is active still, or none is, or the method failed
 pub data Run : Type 0 where
   running : State → Run
   ended : State → Run
-  failed : ℕ → ℕ → Run
+  failed : Refusal → Run
 
--- refusal k at a place, where there is one
-abbrev pub unless : Place → ℕ → Run → Run
-unless (At i) k r = failed k i
-unless Nowhere k r = r
+-- refused for k at a place, where there is one
+abbrev pub unless : Option ℕ → Cause → Run → Run
+unless (Some i) k r = failed (record { cause = k; place = i })
+unless None k r = r
 
 -- how the whole method ends
 pub data Ending : Type 0 where
   accepted : State → Ending
-  refused : ℕ → ℕ → Ending
+  refused : Refusal → Ending
 
 -- 13 at a component, where there is one
-abbrev pub accepted_unless : Place → State → Ending
-accepted_unless (At i) s = refused 13 i
-accepted_unless Nowhere s = accepted s
+abbrev pub accepted_unless : Option ℕ → State → Ending
+accepted_unless (Some i) s = refused (record { cause = Residual; place = i })
+accepted_unless None s = accepted s
 
 module _ (P : Problem) where
   -- the sum over all cameras but the anchor
@@ -199,9 +201,9 @@ module _ (P : Problem) where
         round = record { old = inner P.right z; active = starts_active bound square_sum; count = 0 };
       }
 
-  abbrev pub opened : Place → Run
-  opened (At i) = failed 9 i
-  opened Nowhere = cond (any start.round.active) (running start) (ended start)
+  abbrev pub opened : Option ℕ → Run
+  opened (Some i) = failed (record { cause = Diagonal; place = i })
+  opened None = cond (any start.round.active) (running start) (ended start)
 
   -- ---- one round
 
@@ -235,7 +237,7 @@ module _ (P : Problem) where
   redirect s =
       let z = precondition s.residual in
       let new = inner s.residual z in
-      unless (component (bad_product s.round.active s.round.old new)) 12 (running (redirected s z new))
+      unless (component (bad_product s.round.active s.round.old new)) Product (running (redirected s z new))
 
   -- on with a new search vector where a component is still active
   abbrev pub continued : Bool → State → Run
@@ -246,7 +248,7 @@ module _ (P : Problem) where
   step s applied =
       let curvature = inner s.search applied in
       let t = moved s applied curvature in
-      unless (component (bad_curvature s.round.active s.round.old curvature)) 11 (continued (any t.round.active) t)
+      unless (component (bad_curvature s.round.active s.round.old curvature)) Curvature (continued (any t.round.active) t)
 
   unfoldable pub round : State → Run
   round s = step s (P.operator s.search)
@@ -256,7 +258,7 @@ module _ (P : Problem) where
   abbrev pub next : Run → Run
   next (running s) = round s
   next (ended s) = ended s
-  next (failed k i) = failed k i
+  next (failed r) = failed r
 
   -- the run after k rounds at most
   unfoldable pub rounds : ℕ → Run
@@ -275,8 +277,8 @@ module _ (P : Problem) where
   abbrev pub closed : Run → Ending
   closed (running s) = tested s
   closed (ended s) = tested s
-  closed (failed k i) = refused k i
+  closed (failed r) = refused r
 
-  -- the whole method: accepted with the positions and the count, or refused with number and place
+  -- the whole method: accepted with the positions and the count, or refused
   unfoldable pub solution : Ending
   solution = closed (rounds (most_rounds P.cameras))

@@ -9,11 +9,11 @@ ghost use Rattle.sqrt.specs.Root.{root};
 ghost use Rattle.system.specs.System.{tiny};
 ghost use Rattle.iterative.specs.Method.{relative, epsilon, squared, component, any as any_of, bound_of, allowed_of, starts_active, stays_active};
 ghost use Rattle.iterative.specs.Method.{bad_curvature, bad_product, bad_residual, quotient as quotient_of, stepped as stepped_of, search_step};
-ghost use Rattle.iterative.specs.inner.Solver.{signed, lowest_flag};
+ghost use Rattle.iterative.specs.inner.Solver.{Computes, lowest_flag};
 
 use crate::Active;
 use double::{abs, is_finite, max};
-use field::{Place, Vec3};
+use field::Vec3;
 use sqrt::sqrt;
 
 pub(crate) fn any(a: Active) -> bool
@@ -29,16 +29,16 @@ pub(crate) fn any(a: Active) -> bool
 }
 
 // The lowest component whose flag is set.
-fn lowest(a: Active) -> Place
+fn lowest(a: Active) -> Option<usize>
     ensures { result ≡ lowest_flag a }
 {
     if a.x {
-        return Place::At(0);
+        return Some(0);
     }
     if a.y {
-        return Place::At(1);
+        return Some(1);
     }
-    if a.z { Place::At(2) } else { Place::Nowhere }
+    if a.z { Some(2) } else { None }
 }
 
 // ---- bounds
@@ -122,7 +122,7 @@ fn bad_curvature_one(active: bool, old: f64, curvature: f64) -> bool
 }
 
 // The lowest active component whose curvature is not finite, or at most 2^-52 × size of old product.
-pub(crate) fn find_bad_curvature(active: Active, old: Vec3, curvature: Vec3) -> Place
+pub(crate) fn find_bad_curvature(active: Active, old: Vec3, curvature: Vec3) -> Option<usize>
     ensures { result ≡ component (bad_curvature active old curvature) }
 {
     lowest(Active {
@@ -145,7 +145,7 @@ fn bad_product_one(active: bool, old: f64, new: f64) -> bool
 }
 
 // The lowest active component whose new product is not finite, or whose old product is at or below 0.
-pub(crate) fn find_bad_product(active: Active, old: Vec3, new: Vec3) -> Place
+pub(crate) fn find_bad_product(active: Active, old: Vec3, new: Vec3) -> Option<usize>
     ensures { result ≡ component (bad_product active old new) }
 {
     lowest(Active {
@@ -165,7 +165,7 @@ fn bad_residual_one(allowed: f64, residual: f64) -> bool
 }
 
 // The lowest component whose residual is not finite or above the allowed.
-pub(crate) fn find_bad_residual(allowed: Vec3, residual: Vec3) -> Place
+pub(crate) fn find_bad_residual(allowed: Vec3, residual: Vec3) -> Option<usize>
     ensures { result ≡ component (bad_residual allowed residual) }
 {
     lowest(Active {
@@ -187,23 +187,28 @@ pub(crate) fn quotient(u: Vec3, v: Vec3) -> Vec3
     }
 }
 
-fn step_one(adds: bool, active: bool, alpha: f64, v: f64, w: f64) -> f64
-    ensures { result ≡ cond active (signed adds v (mul binary64 alpha w)) v }
+fn step_one<F: Fn(f64, f64) -> f64>(f: &F, active: bool, alpha: f64, v: f64, w: f64) -> f64
+    requires { F.IsAlwaysCallable f.now }
+    ensures { (op : _) → Computes (F.post f.now) op → result ≡ cond active (op v (mul binary64 alpha w)) v }
 {
-    if !active {
-        return v;
-    }
-    if adds { v + alpha * w } else { v - alpha * w }
+    if active { f(v, alpha * w) } else { v }
 }
 
-// v stepped along w in the active components.
-pub(crate) fn stepped(adds: bool, active: Active, alpha: Vec3, v: Vec3, w: Vec3) -> Vec3
-    ensures { result ≡ stepped_of (signed adds) active alpha v w }
+// v stepped along w in the active components: f adds or subtracts.
+pub(crate) fn stepped<F: Fn(f64, f64) -> f64>(
+    f: &F,
+    active: Active,
+    alpha: Vec3,
+    v: Vec3,
+    w: Vec3,
+) -> Vec3
+    requires { F.IsAlwaysCallable f.now }
+    ensures { (op : _) → Computes (F.post f.now) op → result ≡ stepped_of op active alpha v w }
 {
     Vec3 {
-        x: step_one(adds, active.x, alpha.x, v.x, w.x),
-        y: step_one(adds, active.y, alpha.y, v.y, w.y),
-        z: step_one(adds, active.z, alpha.z, v.z, w.z),
+        x: step_one(f, active.x, alpha.x, v.x, w.x),
+        y: step_one(f, active.y, alpha.y, v.y, w.y),
+        z: step_one(f, active.z, alpha.z, v.z, w.z),
     }
 }
 

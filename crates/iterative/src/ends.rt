@@ -1,7 +1,5 @@
 // The start and the end of the solve: `solve_reduced_pcg` before and after its rounds.
-ghost use Rattle.std.specs.Prelude.{◌≡◌, length, ◌<◌, ◌≤◌};
-ghost use Rattle.network.specs.Network.{links};
-ghost use Rattle.network.specs.inner.Sound.{LinksSound};
+ghost use Rattle.std.specs.Prelude.{◌≡◌, length, ◌<◌, ◌≤◌, Ok};
 ghost use Rattle.system.specs.Work.{matrix_at};
 ghost use Rattle.iterative.specs.Method.{ended};
 ghost use Rattle.iterative.specs.Opening.{Opened, start_segments};
@@ -10,10 +8,11 @@ ghost use Rattle.iterative.specs.inner.Solver.{problem_in};
 
 use crate::components::{allowed, bound, find_bad_residual, starts_active};
 use crate::fields::{add_products, field_dot, ridged_diagonal, subtract};
-use crate::{Outcome, Round, Step};
-use field::{Place, Vec3, put3, zero};
-use network::Shape;
-use operator::held::apply;
+use crate::reduced_system::ReducedSystem;
+use crate::{Round, Step};
+use field::{Vec3, put3, zero};
+use network::answers::refused_at;
+use network::{Cause, Refusal, Shape};
 use system::get_term;
 use system::work::{applied_at, positions_at, preconditioned_at, residual_at, right_at, search_at};
 
@@ -71,10 +70,8 @@ fn open(s: Shape, work: &mut [f64], anchor: usize) -> StartSums
         right: zero(),
         old: zero(),
     };
-    let mut i = 0usize;
-    while i < s.cameras {
+    for i in 0..s.cameras {
         sums = open_camera(s, work, anchor, i, sums);
-        i += 1;
     }
     sums
 }
@@ -97,92 +94,55 @@ pub(crate) fn start(s: Shape, work: &mut [f64], anchor: usize) -> Opening
 }
 
 // The square sums of the residual, worked out afresh from the positions.
-fn residual(
-    s: Shape,
-    ends: &[usize],
-    offsets: &[usize],
-    listed: &[usize],
-    work: &mut [f64],
-    anchor: usize,
-) -> Vec3
-    requires links_sound { LinksSound (links s ends.now offsets.now listed.now) }
-    requires s_in_bounds { matrix_at s ≤ length work.old }
-    ensures { Settled s (problem_in (links s ends.now offsets.now listed.now) anchor work.old)
+fn residual(t: &ReducedSystem<'_>, work: &mut [f64]) -> Vec3
+    requires s_in_bounds { matrix_at t.now.links.shape ≤ length work.old }
+    ensures { Settled t.now.links.shape (problem_in t.now.links t.now.anchor work.old)
         work.old work.new result }
 {
+    let s = t.shape();
     let at = applied_at(s);
-    apply(work, s, ends, offsets, listed, anchor, positions_at(s), at);
+    t.apply(work, positions_at(s), at);
     subtract(s, work, right_at(s), at);
-    field_dot(work, s.cameras, anchor, at, at)
+    field_dot(work, s.cameras, t.anchor(), at, at)
 }
 
 // The lowest component that fails the final test (13).
-fn finish(
-    s: Shape,
-    ends: &[usize],
-    offsets: &[usize],
-    listed: &[usize],
-    work: &mut [f64],
-    anchor: usize,
-    sums: Vec3,
-) -> Place
-    requires links_sound { LinksSound (links s ends.now offsets.now listed.now) }
-    requires s_in_bounds { matrix_at s ≤ length work.old }
-    requires sums_value { sums ≡ right_sums s anchor work.old }
-    ensures { Tested s (problem_in (links s ends.now offsets.now listed.now) anchor work.old)
+fn finish(t: &ReducedSystem<'_>, work: &mut [f64], sums: Vec3) -> Option<usize>
+    requires s_in_bounds { matrix_at t.now.links.shape ≤ length work.old }
+    requires sums_value { sums ≡ right_sums t.now.links.shape t.now.anchor work.old }
+    ensures { Tested t.now.links.shape (problem_in t.now.links t.now.anchor work.old)
         work.old work.new result }
 {
-    let v = residual(s, ends, offsets, listed, work, anchor);
+    let v = residual(t, work);
     find_bad_residual(allowed(sums), v)
 }
 
 // The answer to a run that ended with the record r.
-fn judge(
-    s: Shape,
-    ends: &[usize],
-    offsets: &[usize],
-    listed: &[usize],
-    work: &mut [f64],
-    anchor: usize,
-    sums: Vec3,
-    r: Round,
-) -> Outcome
-    requires links_sound { LinksSound (links s ends.now offsets.now listed.now) }
-    requires s_in_bounds { matrix_at s ≤ length work.old }
-    requires sums_value { sums ≡ right_sums s anchor work.old }
-    ensures { Concluded s (problem_in (links s ends.now offsets.now listed.now) anchor work.old)
-        (ended (state_in s work.old r)) work.old work.new result }
+fn judge(t: &ReducedSystem<'_>, work: &mut [f64], sums: Vec3, r: Round) -> Result<usize, Refusal>
+    requires s_in_bounds { matrix_at t.now.links.shape ≤ length work.old }
+    requires sums_value { sums ≡ right_sums t.now.links.shape t.now.anchor work.old }
+    ensures { Concluded t.now.links.shape (problem_in t.now.links t.now.anchor work.old)
+        (ended (state_in t.now.links.shape work.old r)) work.old work.new result }
 {
-    let place = finish(s, ends, offsets, listed, work, anchor, sums);
-    match place {
-        Place::At(i) => Outcome::Failed {
-            number: 13,
-            place: i,
-        },
-        Place::Nowhere => Outcome::Placed(r.count),
-    }
+    let place = finish(t, work, sums);
+    refused_at(Cause::Residual, place)?;
+    Ok(r.count)
 }
 
-// The answer to a run.
+// The answer to a run that was not refused.
 pub(crate) fn conclude(
-    s: Shape,
-    ends: &[usize],
-    offsets: &[usize],
-    listed: &[usize],
+    t: &ReducedSystem<'_>,
     work: &mut [f64],
-    anchor: usize,
     sums: Vec3,
     x: Step,
-) -> Outcome
-    requires links_sound { LinksSound (links s ends.now offsets.now listed.now) }
-    requires s_in_bounds { matrix_at s ≤ length work.old }
-    requires sums_value { sums ≡ right_sums s anchor work.old }
-    ensures { Concluded s (problem_in (links s ends.now offsets.now listed.now) anchor work.old)
-        (run_in s work.old x) work.old work.new result }
+) -> Result<usize, Refusal>
+    requires s_in_bounds { matrix_at t.now.links.shape ≤ length work.old }
+    requires sums_value { sums ≡ right_sums t.now.links.shape t.now.anchor work.old }
+    ensures { Concluded t.now.links.shape (problem_in t.now.links t.now.anchor work.old)
+        (run_in t.now.links.shape work.old (Ok x)) work.old work.new result }
 {
     match x {
-        Step::Failed(number, place) => Outcome::Failed { number, place },
-        Step::Running(r) => judge(s, ends, offsets, listed, work, anchor, sums, r),
-        Step::Ended(r) => judge(s, ends, offsets, listed, work, anchor, sums, r),
+        Step::Running(r) => judge(t, work, sums, r),
+        Step::Ended(r) => judge(t, work, sums, r),
     }
 }

@@ -2,20 +2,20 @@
 ghost use Rattle.std.specs.Prelude.{◌≡◌, cond, not, ◌&&◌, ◌+◌, ◌*◌, ◌<◌, ◌≤◌, eqb, length};
 ghost use Rattle.std.specs.Float.Ieee.Scale.{finite};
 ghost use Rattle.field.specs.Vec.{origin, minus, over, plus};
-ghost use Rattle.field.specs.Count.{lowest};
+ghost use Rattle.field.specs.Count.{field, lowest};
 ghost use Rattle.field.specs.Buffer.{get, put, load, store, vector};
 ghost use Rattle.system.specs.System.{diagonal_of};
 ghost use Rattle.system.specs.Work.{term, term_place};
 ghost use Rattle.operator.specs.inner.Applied.{Ordered};
 ghost use Rattle.iterative.specs.Problem.{times, dot_step, field_dot};
 ghost use Rattle.iterative.specs.Method.{stepped as stepped_of, search_step, search_field, difference, bad_diagonal};
-ghost use Rattle.iterative.specs.inner.Solver.{FieldStepped, FieldsFit, Preconditioned, TurnPreconditioned, TurnStepped, diagonal_in};
-ghost use Rattle.iterative.specs.inner.Solver.{signed};
+ghost use Rattle.iterative.specs.inner.Solver.{FieldStepped, FieldsFit, Summed, Preconditioned, diagonal_in};
+ghost use Rattle.iterative.specs.inner.Solver.{Computes, MayMake, Makes};
 
 use crate::Active;
 use crate::components::{search_step, stepped};
 use double::is_finite;
-use field::{Place, Vec3, anchored, get3, put3, zero};
+use field::{Vec3, anchored, get3, put3, zero};
 use network::Shape;
 use system::get_term;
 
@@ -65,10 +65,9 @@ pub(crate) fn field_dot(work: &[f64], n: usize, anchor: usize, p: usize, q: usiz
     ensures { result ≡ field_dot n anchor (load vector work.now p n) (load vector work.now q n) }
 {
     let mut sum = zero();
-    let mut i = 0usize;
-    while i < n {
+    // Kept: it fills nothing, and a pass that takes the turn as a closure has a contract longer than this loop.
+    for i in 0..n {
         sum = dot_step(work, n, anchor, p, q, i, sum);
-        i += 1;
     }
     sum
 }
@@ -94,49 +93,47 @@ fn bad_at(i: usize, anchor: usize, d: f64) -> bool
 }
 
 // The lowest camera whose diagonal with the ridge is not finite.
-pub(crate) fn find_bad_diagonal(s: Shape, work: &[f64], anchor: usize) -> Place
+pub(crate) fn find_bad_diagonal(s: Shape, work: &[f64], anchor: usize) -> Option<usize>
     requires { FieldsFit s (length work.now) }
     ensures { result ≡ lowest (bad_diagonal anchor (diagonal_of (load term work.now 0 s.cameras))) s.cameras }
 {
-    let n = s.cameras;
-    let mut i = 0usize;
-    while i < n {
-        if bad_at(i, anchor, ridged_diagonal(work, i)) {
-            return Place::At(i);
-        }
-        i += 1;
-    }
-    Place::Nowhere
+    (0..s.cameras).find(|&i| bad_at(i, anchor, ridged_diagonal(work, i)))
 }
 
-// ---- fields that are filled: each by one camera's vector after another
+// ---- fields that are filled, one camera's vector after another
 
-fn put_preconditioned(work: &mut [f64], anchor: usize, from: usize, into: usize, i: usize)
-    requires { (i < 4096) × (term_place (i + 1) ≤ length work.old) × (from + 3 * i + 3 ≤ length work.old) ×
-        (into + 3 * i + 3 ≤ length work.old) }
-    ensures { work.new ≡ put vector work.old (into + 3 * i)
-        (cond (eqb i anchor) origin (over (get vector work.old (from + 3 * i)) (diagonal_in work.old i))) }
+// The field at `into` filled, camera after camera, with the vector that f makes of the buffer, as it stands, and the camera's number.
+fn fill<F: Fn(&[f64], usize) -> Vec3>(work: &mut [f64], n: usize, into: usize, f: F)
+    requires room { into + 3 * n ≤ length work.old }
+    requires callable { MayMake (F.pre f) n (length work.old) }
+    ensures { (g : _) → Makes (F.post f) g n into work.old → work.new ≡ store vector work.old into (field n g) }
 {
-    let v = get_vector(work, from, i).div(ridged_diagonal(work, i));
-    put_vector(work, into, i, anchored(i, anchor, zero(), v));
+    for i in 0..n {
+        let v = f(work, i);
+        put_vector(work, into, i, v);
+    }
 }
 
-// The same, and camera i's products with the field at `from` added to the sum.
-fn precondition_at(
+// The same, and returned is the dot of the fields at `with` and `into`, summed in the same pass.
+fn fill_summed<F: Fn(&[f64], usize) -> Vec3>(
     work: &mut [f64],
     n: usize,
     anchor: usize,
-    from: usize,
+    with: usize,
     into: usize,
-    i: usize,
-    sum: Vec3,
+    f: F,
 ) -> Vec3
-    requires { (n ≤ 4096) × (i < n) × (term_place n ≤ length work.old) × (from + 3 * n ≤ length work.old) ×
-        (into + 3 * n ≤ length work.old) }
-    ensures { TurnPreconditioned n anchor from into i sum work.old work.new result }
+    requires room { (with + 3 * n ≤ length work.old) × (into + 3 * n ≤ length work.old) }
+    requires callable { MayMake (F.pre f) n (length work.old) }
+    ensures { (g : _) → Makes (F.post f) g n into work.old → Summed g n anchor with into work.old n work.new result }
 {
-    put_preconditioned(work, anchor, from, into, i);
-    dot_step(work, n, anchor, from, into, i, sum)
+    let mut sum = zero();
+    for i in 0..n {
+        let v = f(work, i);
+        put_vector(work, into, i, v);
+        sum = dot_step(work, n, anchor, with, into, i, sum);
+    }
+    sum
 }
 
 // The field at `from` over the diagonal with the ridge, and zero at the anchor. Returned is the dot of the two fields, summed in the same pass.
@@ -150,88 +147,41 @@ pub(crate) fn precondition(
     requires { Ordered s from into (length work.old) }
     ensures { Preconditioned s anchor from into work.old work.new result }
 {
-    let n = s.cameras;
-    let mut sum = zero();
-    let mut i = 0usize;
-    while i < n {
-        sum = precondition_at(work, n, anchor, from, into, i, sum);
-        i += 1;
-    }
-    sum
-}
-
-fn put_stepped(
-    work: &mut [f64],
-    anchor: usize,
-    adds: bool,
-    active: Active,
-    alpha: Vec3,
-    into: usize,
-    along: usize,
-    i: usize,
-)
-    requires { (into + 3 * i + 3 ≤ length work.old) × (along + 3 * i + 3 ≤ length work.old) }
-    ensures { work.new ≡ put vector work.old (into + 3 * i)
-        (cond (eqb i anchor) (get vector work.old (into + 3 * i))
-        (stepped_of (signed adds) active alpha (get vector work.old (into + 3 * i)) (get vector work.old (along + 3 * i)))) }
-{
-    let v = get_vector(work, into, i);
-    let w = stepped(adds, active, alpha, v, get_vector(work, along, i));
-    put_vector(work, into, i, anchored(i, anchor, v, w));
-}
-
-// The same, and the squares of camera i's vector added to the sum.
-fn step_at(
-    work: &mut [f64],
-    n: usize,
-    anchor: usize,
-    adds: bool,
-    active: Active,
-    alpha: Vec3,
-    into: usize,
-    along: usize,
-    i: usize,
-    sum: Vec3,
-) -> Vec3
-    requires { (n ≤ 4096) × (i < n) × (into + 3 * n ≤ length work.old) × (along + 3 * n ≤ length work.old) }
-    ensures { TurnStepped n anchor (signed adds) active alpha into along i sum work.old work.new result }
-{
-    put_stepped(work, anchor, adds, active, alpha, into, along, i);
-    dot_step(work, n, anchor, into, into, i, sum)
+    fill_summed(work, s.cameras, anchor, from, into, |work, i| {
+        let v = get_vector(work, from, i).div(ridged_diagonal(work, i));
+        anchored(i, anchor, zero(), v)
+    })
 }
 
 // The field at `into` stepped along the field at `along`, but for the anchor. Returned is its dot with itself, summed in the same pass.
-pub(crate) fn step_field(
+pub(crate) fn step_field<F: Fn(f64, f64) -> f64>(
     s: Shape,
     work: &mut [f64],
     anchor: usize,
-    adds: bool,
+    f: F,
     active: Active,
     alpha: Vec3,
     into: usize,
     along: usize,
 ) -> Vec3
-    requires { Ordered s into along (length work.old) }
-    ensures { FieldStepped s anchor (signed adds) active alpha into along work.old work.new result }
+    requires room { Ordered s into along (length work.old) }
+    requires callable { F.IsAlwaysCallable f }
+    ensures { (op : _) → Computes (F.post f) op → FieldStepped s anchor op active alpha into along work.old work.new result }
 {
-    let n = s.cameras;
-    let mut sum = zero();
-    let mut i = 0usize;
-    while i < n {
-        sum = step_at(work, n, anchor, adds, active, alpha, into, along, i, sum);
-        i += 1;
-    }
-    sum
-}
-
-fn put_search(work: &mut [f64], active: Active, beta: Vec3, from: usize, into: usize, i: usize)
-    requires { (from + 3 * i + 3 ≤ length work.old) × (into + 3 * i + 3 ≤ length work.old) }
-    ensures { work.new ≡ put vector work.old (into + 3 * i)
-        (search_step active beta (get vector work.old (from + 3 * i)) (get vector work.old (into + 3 * i))) }
-{
-    let z = get_vector(work, from, i);
-    let v = search_step(active, beta, z, get_vector(work, into, i));
-    put_vector(work, into, i, v);
+    fill_summed(
+        work,
+        s.cameras,
+        anchor,
+        into,
+        into,
+        |work, i|
+            requires { (into + 3 * i + 3 ≤ length work.now) × (along + 3 * i + 3 ≤ length work.now) × F.IsAlwaysCallable f }
+        {
+            let v = get_vector(work, into, i);
+            let w = stepped(&f, active, alpha, v, get_vector(work, along, i));
+            anchored(i, anchor, v, w)
+        },
+    )
 }
 
 // The next search vector at `into`, of the field at `from`.
@@ -248,21 +198,14 @@ pub(crate) fn update_search(
         (search_field s.cameras active beta (load vector work.old from s.cameras)
         (load vector work.old into s.cameras)) }
 {
-    let n = s.cameras;
-    let mut i = 0usize;
-    while i < n {
-        put_search(work, active, beta, from, into, i);
-        i += 1;
-    }
-}
-
-fn put_difference(work: &mut [f64], from: usize, into: usize, i: usize)
-    requires { (from + 3 * i + 3 ≤ length work.old) × (into + 3 * i + 3 ≤ length work.old) }
-    ensures { work.new ≡ put vector work.old (into + 3 * i)
-        (minus (get vector work.old (into + 3 * i)) (get vector work.old (from + 3 * i))) }
-{
-    let v = get_vector(work, into, i).sub(get_vector(work, from, i));
-    put_vector(work, into, i, v);
+    fill(work, s.cameras, into, |work, i| {
+        search_step(
+            active,
+            beta,
+            get_vector(work, from, i),
+            get_vector(work, into, i),
+        )
+    });
 }
 
 // The field at `into` less the field at `from`.
@@ -271,10 +214,7 @@ pub(crate) fn subtract(s: Shape, work: &mut [f64], from: usize, into: usize)
     ensures { work.new ≡ store vector work.old into
         (difference s.cameras (load vector work.old into s.cameras) (load vector work.old from s.cameras)) }
 {
-    let n = s.cameras;
-    let mut i = 0usize;
-    while i < n {
-        put_difference(work, from, into, i);
-        i += 1;
-    }
+    fill(work, s.cameras, into, |work, i| {
+        get_vector(work, into, i).sub(get_vector(work, from, i))
+    });
 }

@@ -4,11 +4,12 @@
 mod components;
 mod ends;
 mod fields;
+mod reduced_system;
 mod rounds;
 
 ghost use Rattle.std.specs.Prelude.{◌≡◌, ◌≤◌, length};
 ghost use Rattle.field.specs.Count.{lowest};
-ghost use Rattle.field.specs.declared.Place.TheVariants.{Nowhere};
+ghost use Rattle.std.specs.Prelude.{None, Ok};
 ghost use Rattle.field.specs.Buffer.{load};
 ghost use Rattle.network.specs.Network.{links};
 ghost use Rattle.network.specs.inner.Sound.{LinksSound};
@@ -20,9 +21,11 @@ ghost use Rattle.iterative.specs.Reduced.{problem_by};
 ghost use Rattle.iterative.specs.inner.Solver.{IterativeSolved};
 
 use ends::{conclude, start};
-use field::{Place, Vec3};
+use field::Vec3;
 use fields::find_bad_diagonal;
-use network::Shape;
+use network::answers::refused_at;
+use network::{Cause, Refusal, Shape};
+use reduced_system::ReducedSystem;
 use rounds::iterate;
 
 // Which of the components x, y and z are still iterated.
@@ -41,41 +44,25 @@ pub struct Round {
     pub count: usize,
 }
 
-// How a round ends: refused with document 01's number and place, with a component that is still iterated, or with none.
+// How a round ends: with a component that is still iterated, or with none.
 #[derive(Clone, Copy)]
 pub enum Step {
-    Failed(usize, usize),
     Running(Round),
     Ended(Round),
 }
 
-// The answer of the solve: document 01's number and place, or the count of rounds, with the positions in their place.
-#[derive(Clone, Copy)]
-pub enum Outcome {
-    Failed { number: usize, place: usize },
-    Placed(usize),
-}
-
-// The solve where every diagonal is finite.
-fn run(
-    s: Shape,
-    ends: &[usize],
-    offsets: &[usize],
-    listed: &[usize],
-    anchor: usize,
-    work: &mut [f64],
-) -> Outcome
-    requires links_sound { LinksSound (links s ends.now offsets.now listed.now) }
-    requires s_in_bounds { matrix_at s ≤ length work.old }
-    requires cameras_value { lowest (bad_diagonal anchor (diagonal_of (load term work.old 0 s.cameras))) s.cameras ≡ Nowhere }
-    ensures { IterativeSolved s (problem_by (links s ends.now offsets.now listed.now)
-        (weights_in s work.old) (load term work.old 0 s.cameras) anchor) work.old work.new result }
+// The solve where every diagonal is finite: the count of rounds, with the positions in their place.
+fn run(t: &ReducedSystem<'_>, work: &mut [f64]) -> Result<usize, Refusal>
+    requires s_in_bounds { matrix_at t.now.links.shape ≤ length work.old }
+    requires cameras_value { lowest (bad_diagonal t.now.anchor (diagonal_of (load term work.old 0 t.now.links.shape.cameras))) t.now.links.shape.cameras ≡ None }
+    ensures { IterativeSolved t.now.links.shape (problem_by t.now.links
+        (weights_in t.now.links.shape work.old) (load term work.old 0 t.now.links.shape.cameras) t.now.anchor) work.old work.new result }
 {
-    let opening = start(s, work, anchor);
+    let opening = start(t.shape(), work, t.anchor());
     let sums = opening.sums;
     let first = opening.round;
-    let end = iterate(s, ends, offsets, listed, work, anchor, sums, first);
-    conclude(s, ends, offsets, listed, work, anchor, sums, end)
+    let end = iterate(t, work, sums, first)?;
+    conclude(t, work, sums, end)
 }
 
 // The system that stands in the work buffer solved by the written method: positions in their place, where it is accepted. The Rust's
@@ -87,18 +74,13 @@ pub fn solve_iterative(
     listed: &[usize],
     anchor: usize,
     work: &mut [f64],
-) -> Outcome
+) -> Result<usize, Refusal>
     requires links_sound { LinksSound (links s ends.now offsets.now listed.now) }
     requires s_in_bounds { matrix_at s ≤ length work.old }
     ensures { IterativeSolved s (problem_by (links s ends.now offsets.now listed.now)
         (weights_in s work.old) (load term work.old 0 s.cameras) anchor) work.old work.new result }
 {
-    let bad = find_bad_diagonal(s, work, anchor);
-    match bad {
-        Place::At(i) => Outcome::Failed {
-            number: 9,
-            place: i,
-        },
-        Place::Nowhere => run(s, ends, offsets, listed, anchor, work),
-    }
+    refused_at(Cause::Diagonal, find_bad_diagonal(s, work, anchor))?;
+    let t = ReducedSystem::new(s, ends, offsets, listed, anchor);
+    run(&t, work)
 }

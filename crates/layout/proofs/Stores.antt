@@ -1,17 +1,18 @@
 -- Buffers that are filled piece by piece. Assumes nothing.
-use Prim.Native.Nat.{ℕ, zero, suc, ◌+◌, ◌*◌, ◌/◌, ◌%◌, ◌^◌, ◌≤◌, ◌<◌}
+use Prim.Native.Nat.{ℕ, zero, suc, ◌+◌, ◌-◌, ◌*◌, ◌/◌, ◌%◌, ◌^◌, ◌≤◌, ◌<◌}
 use mathlib.Core.Path.{◌≡◌, refl, sym, ap, ap₂, ◌∙◌}
 use mathlib.Core.List.{List, [], ◌∷◌, ◌++◌, append_assoc, append-nil}
 use native.Mathlib.Omega.{arith}
 use native.Mathlib.Nat.{add-zero, zero-add}
 use native.Mathlib.Numerals.{add-one}
-use lib.ListN.{length, get_or, take, drop, set, length-append}
+use lib.ListN.{length, get_or, take, drop, set, length-append, length-take}
 use mir.Syntax.{w64}
 use mir.Val.{Fits}
-use lib.Seq.{take_all, length-take-le}
+use borrow.Rule.Slice.PartMut.{put_mid, mid_of}
+use lib.Seq.{drop-drop, length-take-le}
 use lib.Ieee.{Float, nan, binary64, to_bits}
-use Rattle.field.specs.Buffer.{write}
-use Rattle.field.proofs.Buffers.{set-write, write-append, write-front}
+use Rattle.field.specs.Buffer.{write, part}
+use Rattle.field.proofs.Buffers.{set-write, write-append, write-front, write-whole, write-split, get_or-part, length_part}
 use Rattle.network.specs.Network.{rows}
 use Rattle.network.specs.declared.Shape.{Shape}
 use Rattle.layout.specs.Bytes.{bytes_of, double_bytes, run, wholes, doubles, total}
@@ -31,21 +32,30 @@ write-none l p = refl
 
 -- ---- a number
 
-pub number-none : (l : List ℕ) (p x : ℕ) → l ≡ write l p (bytes_of 0 x)
+pub number-none : (l : List ℕ) (x : ℕ) → l ≡ write l 0 (bytes_of 0 x)
 unfolding bytes_of
-number-none l p x = write-none l p
+number-none l x = write-none l 0
 
-module _ (l m : List ℕ) (p i x left : ℕ) (f : left ≡ higher i x) where
+module _ (l m : List ℕ) (i x left : ℕ) (f : left ≡ higher i x) where
   pub higher-more : left / 256 ≡ higher (i + 1) x
   higher-more = rw add-one (ap (λ t. t / 256) f)
 
-  pub number_more : m ≡ write l p (bytes_of i x) → set m (p + i) (left % 256) ≡ write l p (bytes_of (i + 1) x)
+  pub number_more : m ≡ write l 0 (bytes_of i x) → set m i (left % 256) ≡ write l 0 (bytes_of (i + 1) x)
   number_more e =
-      write-next l p i (bytes_of i x) (left % 256 ∷ []) e (length-bytes i x) (set-write m (p + i) (left % 256))
-      ∙ ap (write l p) (ap (λ t. bytes_of i x ++ (t % 256 ∷ [])) f ∙ rw add-one (sym (bytes-more i x)))
+      write-next l 0 i (bytes_of i x) (left % 256 ∷ []) e (length-bytes i x) (rw zero-add (set-write m i (left % 256)))
+      ∙ ap (write l 0) (ap (λ t. bytes_of i x ++ (t % 256 ∷ [])) f ∙ rw add-one (sym (bytes-more i x)))
 
-pub number-ended : (l m : List ℕ) (p i n x : ℕ) → m ≡ write l p (bytes_of i x) → i ≤ n → n ≤ i → m ≡ write l p (bytes_of n x)
-number-ended l m p i n x e a b = let q : i ≡ n = omega arith in rw q at e
+-- the part that was lent, full
+pub number-ended : (l m : List ℕ) (p n i x : ℕ) → p + n ≤ length l → let w = mid_of p (p + n - p) l in
+    m ≡ write w 0 (bytes_of i x) → i ≤ length w → length w ≤ i → length m ≡ length w → put_mid p (p + n - p) l m ≡ write l p (bytes_of n x)
+number-ended l m p n i x h e a b k =
+    let q : p + n - p ≡ n = omega arith in
+    let lw : length (part l p n) ≡ n = length_part l p n h in
+    let lm : length m ≡ n = k ∙ rw q lw in
+    let j : i ≡ n = omega arith in
+    let f : m ≡ bytes_of n x = rw (q, j) at e ∙ write-whole (part l p n) (bytes_of n x) (lw ∙ sym (length-bytes n x)) in
+    let r : drop n (drop p l) ≡ drop (p + length m) l = rw lm (drop-drop n p l) in
+    rw (q, r) (sym (write-split l p m (omega arith)) ∙ ap (write l p) f)
 
 pub double-stored : (l left : List ℕ) (p : ℕ) (x : Float) {b : ℕ} → b ≡ to_bits binary64 x → left ≡ write l p (bytes_of 8 b) → left ≡ write l p (double_bytes x)
 double-stored l left p x e f = f ∙ ap (λ t. write l p (bytes_of 8 t)) e
@@ -56,18 +66,21 @@ pub run_none : (l : List ℕ) (p : ℕ) (g : ℕ → List ℕ) → l ≡ write l
 unfolding run
 run_none l p g = write-none l p
 
-pub run-ended : (l m : List ℕ) (p i n : ℕ) (g : ℕ → List ℕ) → m ≡ write l p (run i g) → i ≤ n → n ≤ i → m ≡ write l p (run n g)
-run-ended l m p i n g e a b = let q : i ≡ n = omega arith in rw q at e
+-- a part's element i
+part-at : {A : Type 0} (l : List A) (a n i : ℕ) (d : A) → i < length (part l a n) → get_or (part l a n) i d ≡ get_or l (a + i) d
+part-at {A} l a n i d h = get_or-part l a n i d (omega (arith, length-take n (drop a l)))
 
 module _ (l m left : List ℕ) (p i : ℕ) where
   run_more : (w : ℕ) (g : ℕ → List ℕ) → ((j : ℕ) → length (g j) ≡ w) → m ≡ write l p (run i g) → left ≡ write m (p + w * i) (g i) → left ≡ write l p (run (i + 1) g)
   run_more w g h e f = write-next l p (w * i) (run i g) (g i) e (length_run i w g h) f ∙ ap (write l p) (rw add-one (sym (run-suc i g)))
 
-  pub wholes-more : (ns : List ℕ) (a : ℕ) → m ≡ write l p (wholes ns a i) → left ≡ write m (p + 4 * i) (bytes_of 4 (get_or ns (a + i) 0)) → left ≡ write l p (wholes ns a (i + 1))
-  wholes-more ns a e f = run_more 4 (λ j. bytes_of 4 (get_or ns (a + j) 0)) (λ j. length-bytes 4 _) e f
+  pub wholes-more : (ns : List ℕ) (a n : ℕ) → m ≡ write l p (wholes ns a i) → i < length (part ns a n) → left ≡ write m (p + 4 * i) (bytes_of 4 (get_or (part ns a n) i 0)) →
+      left ≡ write l p (wholes ns a (i + 1))
+  wholes-more ns a n e h f = run_more 4 (λ j. bytes_of 4 (get_or ns (a + j) 0)) (λ j. length-bytes 4 _) e (rw (part-at ns a n i 0 h) at f)
 
-  pub doubles-more : (xs : List Float) (a : ℕ) → m ≡ write l p (doubles xs a i) → left ≡ write m (p + 8 * i) (double_bytes (get_or xs (a + i) nan)) → left ≡ write l p (doubles xs a (i + 1))
-  doubles-more xs a e f = run_more 8 (λ j. double_bytes (get_or xs (a + j) nan)) (λ j. length-bytes 8 _) e f
+  pub doubles-more : (xs : List Float) (a n : ℕ) → m ≡ write l p (doubles xs a i) → i < length (part xs a n) → left ≡ write m (p + 8 * i) (double_bytes (get_or (part xs a n) i nan)) →
+      left ≡ write l p (doubles xs a (i + 1))
+  doubles-more xs a n e h f = run_more 8 (λ j. double_bytes (get_or xs (a + j) nan)) (λ j. length-bytes 8 _) e (rw (part-at xs a n i nan h) at f)
 
   pub rows_more : (ends : List ℕ) (rays weights scales : List Float) →
       m ≡ write l p (run i (row_bytes ends rays weights scales)) → left ≡ write m (p + 48 * i) (row_bytes ends rays weights scales i) →
@@ -108,9 +121,6 @@ pairs-more l m left p start ns i offset e o h f =
     let n : length (pairs start (take i ns)) ≡ 8 * i = length_pairs start (take i ns) ∙ ap (λ t. 8 * t) (length-take-le i ns (omega arith)) in
     write-next l p (8 * i) (pairs start (take i ns)) (pair offset (get_or ns i 0)) e n f
     ∙ ap (write l p) (ap (λ t. pairs start (take i ns) ++ pair t (get_or ns i 0)) o ∙ rw add-one (sym (pairs-snoc start ns i h)))
-
-pub pairs-whole : (l m : List ℕ) (p start : ℕ) (ns : List ℕ) (i : ℕ) → m ≡ write l p (pairs start (take i ns)) → length ns ≤ i → m ≡ write l p (pairs start ns)
-pairs-whole l m p start ns i e h = e ∙ ap (λ t. write l p (pairs start t)) (take_all i ns h)
 
 -- ---- straight-line code
 

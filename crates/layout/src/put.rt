@@ -15,11 +15,9 @@ fn put_number(value: u64, count: usize, out: &mut [u8], at: usize)
     ensures { out.new ≡ write out.old at (bytes_of count value) }
 {
     let mut rest = value;
-    let mut i = 0usize;
-    while i < count {
-        out[at + i] = (rest % 256) as u8;
-        rest = rest / 256;
-        i += 1;
+    for byte in out[at..at + count].iter_mut() {
+        *byte = (rest % 256) as u8;
+        rest /= 256;
     }
 }
 
@@ -36,10 +34,8 @@ fn put_wholes(list: &[usize], from: usize, count: usize, out: &mut [u8], at: usi
     requires out_in_bounds { at + 4 * count ≤ length out.old }
     ensures { out.new ≡ write out.old at (wholes list.now from count) }
 {
-    let mut i = 0usize;
-    while i < count {
-        put_number(list[from + i] as u64, 4, out, at + 4 * i);
-        i += 1;
+    for (i, x) in list[from..from + count].iter().enumerate() {
+        put_number(*x as u64, 4, out, at + 4 * i);
     }
 }
 
@@ -49,10 +45,8 @@ fn put_doubles(list: &[f64], from: usize, count: usize, out: &mut [u8], at: usiz
     requires out_in_bounds { at + 8 * count ≤ length out.old }
     ensures { out.new ≡ write out.old at (doubles list.now from count) }
 {
-    let mut i = 0usize;
-    while i < count {
-        put_double(list[from + i], out, at + 8 * i);
-        i += 1;
+    for (i, x) in list[from..from + count].iter().enumerate() {
+        put_double(*x, out, at + 8 * i);
     }
 }
 
@@ -104,10 +98,8 @@ fn put_rows(
     ensures { out.new ≡ write out.old at
         (run count (row_bytes ends.now rays.now weights.now scales.now)) }
 {
-    let mut r = 0usize;
-    while r < count {
+    for r in 0..count {
         put_row(ends, rays, weights, scales, r, out, at + 48 * r);
-        r += 1;
     }
 }
 
@@ -127,11 +119,9 @@ fn put_pairs(start: usize, sizes: &[usize], out: &mut [u8], at: usize)
     ensures { out.new ≡ write out.old at (pairs start sizes.now) }
 {
     let mut offset = start;
-    let mut i = 0usize;
-    while i < sizes.len() {
-        put_pair(offset, sizes[i], out, at + 8 * i);
-        offset += sizes[i];
-        i += 1;
+    for (i, size) in sizes.iter().enumerate() {
+        put_pair(offset, *size, out, at + 8 * i);
+        offset += *size;
     }
 }
 

@@ -4,11 +4,10 @@
 
 mod stages;
 
-use graph::{Connectivity, Listing};
 use io::{print_decimal, write_all};
-use network::{Refusal, Shape, Verdict, check_counts};
-use stages::{check_solve, check_step};
-use system::work::{Length, work_length};
+use network::{Refusal, Shape, check_counts};
+use stages::{Lent, check_solve, check_step};
+use system::work::work_length;
 
 fn shape(n: usize, m: usize, b: usize, e: usize) -> Shape {
     Shape {
@@ -25,29 +24,29 @@ fn number(x: usize) {
 
 fn refusal(r: Refusal) {
     write_all(1, b"refused ");
-    number(r.number);
+    number(r.cause.number());
     write_all(1, b" place ");
     number(r.place);
 }
 
-fn told(name: &[u8], v: Verdict) {
+fn told(name: &[u8], v: Result<(), Refusal>) {
     write_all(1, name);
     write_all(1, b": ");
     match v {
-        Verdict::Refused(r) => refusal(r),
-        Verdict::Passed => {
+        Err(r) => refusal(r),
+        Ok(_) => {
             write_all(1, b"passed");
         }
     }
 }
 
-fn verdict(name: &[u8], v: Verdict) {
+fn verdict(name: &[u8], v: Result<(), Refusal>) {
     told(name, v);
     write_all(1, b"\n");
 }
 
 // With what the marks hold after it.
-fn marked(name: &[u8], v: Verdict, marks: &[usize]) {
+fn marked(name: &[u8], v: Result<(), Refusal>, marks: &[usize]) {
     told(name, v);
     write_all(1, b", marks");
     shown(marks);
@@ -62,8 +61,8 @@ fn length(n: usize, route: usize, limit: usize) {
     number(limit);
     write_all(1, b": ");
     match work_length(shape(n, 2, 3, 1), route, limit) {
-        Length::Refused(r) => refusal(r),
-        Length::Of(t) => number(t),
+        Err(r) => refusal(r),
+        Ok(t) => number(t),
     }
     write_all(1, b"\n");
 }
@@ -79,230 +78,82 @@ const SCALES: [f64; 4] = [1.0, 1.0, 1.0, 1.0];
 
 const POINTS: [f64; 6] = [5.0, 5.0, 5.0, 6.0, 6.0, 6.0];
 
-const OFFSETS: [usize; 3] = [0, 2, 3];
-
-const LISTED: [usize; 3] = [0, 1, 2];
-
-#[derive(Clone, Copy)]
-struct Case {
-    ends: [usize; 8],
-    rays: [f64; 12],
-    weights: [f64; 4],
-    scales: [f64; 4],
-    points: [f64; 6],
-    offsets: [usize; 3],
-    listed: [usize; 3],
-}
-
-fn good() -> Case {
-    Case {
-        ends: ENDS,
-        rays: RAYS,
-        weights: WEIGHTS,
-        scales: SCALES,
-        points: POINTS,
-        offsets: OFFSETS,
-        listed: LISTED,
+fn good<'a>() -> Lent<'a> {
+    Lent {
+        ends: &ENDS,
+        rays: &RAYS,
+        weights: &WEIGHTS,
+        scales: &SCALES,
+        points: &POINTS,
+        offsets: &[0, 2, 3],
+        listed: &[0, 1, 2],
     }
 }
 
-fn solve(name: &[u8], c: Case, route: usize, limit: usize) {
-    let ends = c.ends;
-    let rays = c.rays;
-    let weights = c.weights;
-    let scales = c.scales;
-    let points = c.points;
-    let offsets = c.offsets;
-    let listed = c.listed;
+// 1 to 8 of the good network, changed so.
+fn solve<'a, F: FnOnce(&mut Lent<'a>)>(name: &[u8], route: usize, limit: usize, change: F)
+    requires { F.IsAlwaysCallable change }
+{
+    let mut l = good();
+    change(&mut l);
     let mut marks = [7usize; 3];
-    let v = check_solve(
-        shape(3, 2, 3, 1),
-        &ends,
-        &rays,
-        &weights,
-        &scales,
-        &points,
-        &offsets,
-        &listed,
-        &mut marks,
-        route,
-        limit,
-    );
+    let v = check_solve(shape(3, 2, 3, 1), l, &mut marks, route, limit);
     marked(name, v, &marks);
 }
 
-fn with_end(name: &[u8], at: usize, x: usize) {
-    let mut c = good();
-    if at < 8 {
-        c.ends[at] = x;
+// The list with x at this place.
+fn changed<T: Copy, const N: usize>(mut list: [T; N], at: usize, x: T) -> [T; N] {
+    if at < N {
+        list[at] = x;
     }
-    solve(name, c, 1, 2);
+    list
+}
+
+fn with_end(name: &[u8], at: usize, x: usize) {
+    let ends = changed(ENDS, at, x);
+    solve(name, 1, 2, |l| l.ends = &ends);
 }
 
 fn with_weight(name: &[u8], x: f64) {
-    let mut c = good();
-    c.weights[2] = x;
-    solve(name, c, 2, 0);
+    let weights = changed(WEIGHTS, 2, x);
+    solve(name, 2, 0, |l| l.weights = &weights);
 }
 
 fn with_scale(name: &[u8], x: f64) {
-    let mut c = good();
-    c.scales[3] = x;
-    solve(name, c, 2, 0);
+    let scales = changed(SCALES, 3, x);
+    solve(name, 2, 0, |l| l.scales = &scales);
 }
 
 fn with_ray(name: &[u8], at: usize, x: f64) {
-    let mut c = good();
-    if at < 12 {
-        c.rays[at] = x;
-    }
-    solve(name, c, 2, 0);
+    let rays = changed(RAYS, at, x);
+    solve(name, 2, 0, |l| l.rays = &rays);
 }
 
 fn with_point(name: &[u8], at: usize, x: f64) {
-    let mut c = good();
-    if at < 6 {
-        c.points[at] = x;
-    }
-    solve(name, c, 2, 0);
+    let points = changed(POINTS, at, x);
+    solve(name, 2, 0, |l| l.points = &points);
 }
 
-fn with_lists(name: &[u8], offsets: [usize; 3], listed: [usize; 3]) {
-    let mut c = good();
-    c.offsets = offsets;
-    c.listed = listed;
-    solve(name, c, 2, 0);
+fn with_lists(name: &[u8], offsets: &[usize], listed: &[usize]) {
+    solve(name, 2, 0, |l| {
+        l.offsets = offsets;
+        l.listed = listed;
+    });
 }
 
-// 1 to 7 of such lists.
-fn step(
-    name: &[u8],
-    ends: &[usize],
-    rays: &[f64],
-    weights: &[f64],
-    scales: &[f64],
-    points: &[f64],
-    offsets: &[usize],
-    listed: &[usize],
-    marks: &mut [usize],
-) {
-    let v = check_step(
-        shape(3, 2, 3, 1),
-        ends,
-        rays,
-        weights,
-        scales,
-        points,
-        offsets,
-        listed,
-        marks,
-    );
+// 1 to 7 of such slices.
+fn step(name: &[u8], l: Lent, marks: &mut [usize]) {
+    let v = check_step(shape(3, 2, 3, 1), l, marks);
     marked(name, v, marks);
 }
 
-// The good network with one slice in the place of its own.
-fn ends_of(name: &[u8], ends: &[usize]) {
-    step(
-        name,
-        ends,
-        &RAYS,
-        &WEIGHTS,
-        &SCALES,
-        &POINTS,
-        &OFFSETS,
-        &LISTED,
-        &mut [7usize; 3],
-    );
-}
-
-fn rays_of(name: &[u8], rays: &[f64]) {
-    step(
-        name,
-        &ENDS,
-        rays,
-        &WEIGHTS,
-        &SCALES,
-        &POINTS,
-        &OFFSETS,
-        &LISTED,
-        &mut [7usize; 3],
-    );
-}
-
-fn weights_of(name: &[u8], weights: &[f64]) {
-    step(
-        name,
-        &ENDS,
-        &RAYS,
-        weights,
-        &SCALES,
-        &POINTS,
-        &OFFSETS,
-        &LISTED,
-        &mut [7usize; 3],
-    );
-}
-
-fn scales_of(name: &[u8], scales: &[f64]) {
-    step(
-        name,
-        &ENDS,
-        &RAYS,
-        &WEIGHTS,
-        scales,
-        &POINTS,
-        &OFFSETS,
-        &LISTED,
-        &mut [7usize; 3],
-    );
-}
-
-fn points_of(name: &[u8], points: &[f64]) {
-    step(
-        name,
-        &ENDS,
-        &RAYS,
-        &WEIGHTS,
-        &SCALES,
-        points,
-        &OFFSETS,
-        &LISTED,
-        &mut [7usize; 3],
-    );
-}
-
-fn offsets_of(name: &[u8], offsets: &[usize]) {
-    step(
-        name,
-        &ENDS,
-        &RAYS,
-        &WEIGHTS,
-        &SCALES,
-        &POINTS,
-        offsets,
-        &LISTED,
-        &mut [7usize; 3],
-    );
-}
-
-fn listed_of(name: &[u8], listed: &[usize]) {
-    step(
-        name,
-        &ENDS,
-        &RAYS,
-        &WEIGHTS,
-        &SCALES,
-        &POINTS,
-        &OFFSETS,
-        listed,
-        &mut [7usize; 3],
-    );
-}
-
-fn marks_of(name: &[u8], marks: &mut [usize]) {
-    step(
-        name, &ENDS, &RAYS, &WEIGHTS, &SCALES, &POINTS, &OFFSETS, &LISTED, marks,
-    );
+// 1 to 7 of the good network, changed so.
+fn with<'a, F: FnOnce(&mut Lent<'a>)>(name: &[u8], change: F)
+    requires { F.IsAlwaysCallable change }
+{
+    let mut l = good();
+    change(&mut l);
+    step(name, l, &mut [7usize; 3]);
 }
 
 // A graph of n cameras, the direction 0-1 of weight 1 and 1-2 of weight v.
@@ -312,11 +163,11 @@ fn connectivity(name: &[u8], n: usize, v: f64, nodes: &mut [usize]) {
     write_all(1, name);
     write_all(1, b": ");
     match graph::is_connected(shape(n, 0, 0, 2), &ends, &weights, nodes) {
-        Connectivity::Refused(r) => refusal(r),
-        Connectivity::Connected => {
+        Err(r) => refusal(r),
+        Ok(true) => {
             write_all(1, b"connected");
         }
-        Connectivity::Disconnected => {
+        Ok(false) => {
             write_all(1, b"not connected");
         }
     }
@@ -341,8 +192,8 @@ fn listing(name: &[u8], nodes: &mut [usize], labels: &mut [usize]) {
     write_all(1, name);
     write_all(1, b": ");
     match graph::parts(shape(3, 0, 0, 2), &ends, &weights, nodes, labels) {
-        Listing::Refused(r) => refusal(r),
-        Listing::Parts(parts) => {
+        Err(r) => refusal(r),
+        Ok(parts) => {
             write_all(1, b"parts ");
             number(parts);
         }
@@ -352,19 +203,24 @@ fn listing(name: &[u8], nodes: &mut [usize], labels: &mut [usize]) {
 }
 
 fn lengths() {
-    length(0, 1, 0);
-    length(1, 1, 0);
-    length(3, 1, 1);
-    length(3, 1, 2);
-    length(3, 2, 2);
-    length(3, 3, 2);
-    length(3, 4, 2);
-    length(3, 0, 2);
-    length(3, 1, 257);
-    length(257, 1, 256);
-    length(258, 3, 256);
-    length(4096, 3, 256);
-    length(4097, 3, 256);
+    let asked = [
+        (0, 1, 0),
+        (1, 1, 0),
+        (3, 1, 1),
+        (3, 1, 2),
+        (3, 2, 2),
+        (3, 3, 2),
+        (3, 4, 2),
+        (3, 0, 2),
+        (3, 1, 257),
+        (257, 1, 256),
+        (258, 3, 256),
+        (4096, 3, 256),
+        (4097, 3, 256),
+    ];
+    for (n, route, limit) in asked {
+        length(n, route, limit);
+    }
 }
 
 fn counts() {
@@ -382,29 +238,29 @@ fn counts() {
 }
 
 fn short() {
-    ends_of(b"ends one short", &[0usize; 7]);
-    rays_of(b"rays one short", &[0.0; 11]);
-    weights_of(b"weights one short", &[1.0; 3]);
-    scales_of(b"scales one short", &[1.0; 3]);
-    points_of(b"points one short", &[0.0; 5]);
-    offsets_of(b"offsets one short", &[0usize; 2]);
-    listed_of(b"listed one short", &[0usize; 2]);
-    marks_of(b"marks one short", &mut [7usize; 2]);
+    with(b"ends one short", |l| l.ends = &[0usize; 7]);
+    with(b"rays one short", |l| l.rays = &[0.0; 11]);
+    with(b"weights one short", |l| l.weights = &[1.0; 3]);
+    with(b"scales one short", |l| l.scales = &[1.0; 3]);
+    with(b"points one short", |l| l.points = &[0.0; 5]);
+    with(b"offsets one short", |l| l.offsets = &[0usize; 2]);
+    with(b"listed one short", |l| l.listed = &[0usize; 2]);
+    step(b"marks one short", good(), &mut [7usize; 2]);
 }
 
 fn long() {
-    ends_of(b"ends one long", &[0usize; 9]);
-    rays_of(b"rays one long", &[0.0; 13]);
-    weights_of(b"weights one long", &[1.0; 5]);
-    scales_of(b"scales one long", &[1.0; 5]);
-    points_of(b"points one long", &[0.0; 7]);
-    offsets_of(b"offsets one long", &[0usize; 4]);
-    listed_of(b"listed one long", &[0usize; 4]);
-    marks_of(b"marks one long", &mut [7usize; 4]);
+    with(b"ends one long", |l| l.ends = &[0usize; 9]);
+    with(b"rays one long", |l| l.rays = &[0.0; 13]);
+    with(b"weights one long", |l| l.weights = &[1.0; 5]);
+    with(b"scales one long", |l| l.scales = &[1.0; 5]);
+    with(b"points one long", |l| l.points = &[0.0; 7]);
+    with(b"offsets one long", |l| l.offsets = &[0usize; 4]);
+    with(b"listed one long", |l| l.listed = &[0usize; 4]);
+    step(b"marks one long", good(), &mut [7usize; 4]);
 }
 
 fn rows() {
-    solve(b"good network", good(), 1, 2);
+    solve(b"good network", 1, 2, |_| {});
     with_end(b"bearing 1's camera 3", 2, 3);
     with_end(b"bearing 2's point 2", 5, 2);
     with_end(b"direction's source 3", 6, 3);
@@ -419,17 +275,17 @@ fn rows() {
     with_ray(b"ray 0's y infinite", 1, 1.0 / 0.0);
     with_ray(b"direction's x NaN", 9, 0.0 / 0.0);
     with_point(b"point 1's z NaN", 5, 0.0 / 0.0);
-    with_lists(b"lists: offsets from 1", [1, 2, 3], [0, 1, 2]);
-    with_lists(b"lists: offsets to 2", [0, 2, 2], [0, 1, 2]);
-    with_lists(b"lists: offsets fall", [0, 4, 3], [0, 1, 2]);
-    with_lists(b"lists: row repeated", [0, 2, 3], [0, 0, 2]);
-    with_lists(b"lists: descending", [0, 2, 3], [1, 0, 2]);
-    with_lists(b"lists: row of another point", [0, 2, 3], [0, 2, 1]);
-    with_lists(b"lists: no bearing", [0, 2, 3], [0, 1, 3]);
-    with_lists(b"lists: row under another point", [0, 1, 3], [0, 1, 2]);
-    solve(b"route 0", good(), 0, 0);
-    solve(b"route 4", good(), 4, 0);
-    solve(b"limit 257", good(), 2, 257);
+    with_lists(b"lists: offsets from 1", &[1, 2, 3], &[0, 1, 2]);
+    with_lists(b"lists: offsets to 2", &[0, 2, 2], &[0, 1, 2]);
+    with_lists(b"lists: offsets fall", &[0, 4, 3], &[0, 1, 2]);
+    with_lists(b"lists: row repeated", &[0, 2, 3], &[0, 0, 2]);
+    with_lists(b"lists: descending", &[0, 2, 3], &[1, 0, 2]);
+    with_lists(b"lists: row of another point", &[0, 2, 3], &[0, 2, 1]);
+    with_lists(b"lists: no bearing", &[0, 2, 3], &[0, 1, 3]);
+    with_lists(b"lists: row under another point", &[0, 1, 3], &[0, 1, 2]);
+    solve(b"route 0", 0, 0, |_| {});
+    solve(b"route 4", 4, 0, |_| {});
+    solve(b"limit 257", 2, 257, |_| {});
 }
 
 fn graphs() {

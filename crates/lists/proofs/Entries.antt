@@ -1,4 +1,6 @@
 -- The tests of the lengths, made so that no sum or product wraps, and what a call that passes has shown. Assumes nothing.
+use Rattle.network.specs.declared.Cause.TheVariants.{OutOfRange}
+use Rattle.std.proofs.Common.{Err, None, Ok, Some}
 use mathlib.Core.Path.{◌≡◌, refl, sym, ap, ◌∙◌}
 use mathlib.Core.List.{List}
 use mathlib.Core.Bool.{Bool, true, false}
@@ -10,11 +12,9 @@ use lib.Dec.{eqb, leb}
 use borrow.Author.Tests.{leb-true, leb-false, eqb-true, eqb-false, le-leb, lt-leb, eq-eqb, ne_eqb}
 use Rattle.double.proofs.Truth.{both_true}
 use Rattle.field.specs.Count.{lowest}
-use Rattle.field.specs.declared.Place.TheVariants.{At, Nowhere}
 use Rattle.field.proofs.Counting.{none_of, lowest-more, lowest-found}
 use Rattle.network.specs.declared.Refusal.{Refusal}
-use Rattle.network.specs.declared.Verdict.{Verdict}
-use Rattle.network.specs.declared.Verdict.TheVariants.{Refused, Passed}
+use Rattle.network.specs.Refusals.{Verdict}
 use Rattle.network.specs.Network.{second_end}
 use Rattle.network.specs.Refusals.{verdict, length_tests}
 use Rattle.network.proofs.Verdicts.{stage-passed, verdict-one, test-at-passed}
@@ -49,16 +49,12 @@ lengths-hold m b ends offsets listed e =
 
 -- ---- the lowest row whose point is out of range, looked for row by row: found, not yet, nowhere
 
-module _ (m : ℕ) (ends : List ℕ) (r : ℕ) (n : lowest (past_points m ends) r ≡ Nowhere) where
-  pub past-found : {b : ℕ} → m ≤ second_end ends r → r < b → At r ≡ lowest (past_points m ends) b
-  unfolding past_points
-  past-found h l = sym (lowest-found _ _ _ n (le-leb _ _ h) l)
-
-  pub past_more : second_end ends r < m → lowest (past_points m ends) (r + 1) ≡ Nowhere
+module _ (m : ℕ) (ends : List ℕ) (r : ℕ) (n : lowest (past_points m ends) r ≡ None) where
+  pub past_more : second_end ends r < m → lowest (past_points m ends) (r + 1) ≡ None
   unfolding past_points
   past_more h = rw (add-one r) (lowest-more _ _ n (lt-leb _ _ h))
 
-  pub past-none : {b : ℕ} → r ≤ b → b ≤ r → Nowhere ≡ lowest (past_points m ends) b
+  pub past-none : {b : ℕ} → r ≤ b → b ≤ r → None ≡ lowest (past_points m ends) b
   past-none {b} h l = let e : r ≡ b = omega arith in sym (rw e at n)
 
 -- ---- the tests, one after another
@@ -67,24 +63,24 @@ module _ (m : ℕ) (ends : List ℕ) (r : ℕ) (n : lowest (past_points m ends) 
 pub lengths-tested : {x : Verdict} {fit f : Bool} → x ≡ verdict (length_tests fit) → fit ≡ f → x ≡ verdict (length_tests f)
 lengths-tested e h = e ∙ ap (λ t. verdict (length_tests t)) h
 
-pub rows-held : (m b k offsets listed : ℕ) {x : Verdict} {fit : Bool} → fit ≡ lengths_fit m b k offsets listed → x ≡ verdict (length_tests fit) → x ≡ Passed → 2 * b ≤ k
+pub rows-held : (m b k offsets listed : ℕ) {x : Verdict} {fit : Bool} → fit ≡ lengths_fit m b k offsets listed → x ≡ verdict (length_tests fit) → x ≡ Ok tt → 2 * b ≤ k
 rows-held m b k offsets listed f e h = (lengths-hold m b k offsets listed (measured e h f)).0
 
 -- what a call that passes has shown
-pub lists-passed : {m b : ℕ} {ends : List ℕ} (offsets listed : ℕ) {x : Verdict} → x ≡ verdict (point_lists_tests m b ends offsets listed) → x ≡ Passed →
+pub lists-passed : {m b : ℕ} {ends : List ℕ} (offsets listed : ℕ) {x : Verdict} → x ≡ verdict (point_lists_tests m b ends offsets listed) → x ≡ Ok tt →
     Rows m b ends × ((offsets ≡ m + 1) × (listed ≡ b))
 unfolding point_lists_tests past_points
 lists-passed {m} {b} {ends} offsets listed e h =
     let a = stage-passed (length_tests (lengths_fit m b (length ends) offsets listed)) _ (sym e ∙ h) in
     let k = lengths-hold m b (length ends) offsets listed (lengths-fit _ a.0) in
-    let n = test-at-passed 4 _ (sym (verdict-one _) ∙ a.1) in
+    let n = test-at-passed OutOfRange _ (sym (verdict-one _) ∙ a.1) in
     (record { held = k.0; point = λ r l. leb-false _ _ (none_of _ b n r l) }, (k.1, k.2))
 
 -- what the call leaves where it is refused, and where it passes
 module _ {m b : ℕ} {ends offsets listed : List ℕ} {x : Verdict} (e : x ≡ verdict (point_lists_tests m b ends (length offsets) (length listed))) where
-  pub call-refused : {r : Refusal} → x ≡ Refused r → PointListsCall m b ends offsets listed (Refused r) offsets listed
+  pub call-refused : {r : Refusal} → x ≡ Err r → PointListsCall m b ends offsets listed (Err r) offsets listed
   call-refused h = record { answered = sym h ∙ e; offsets_out = refl; listed_out = refl }
 
-  pub call-passed : {offsets' listed' : List ℕ} → x ≡ Passed → offsets' ≡ offsets_of ends b m → listed' ≡ listed_of ends b m →
-      PointListsCall m b ends offsets listed Passed offsets' listed'
+  pub call-passed : {offsets' listed' : List ℕ} → x ≡ Ok tt → offsets' ≡ offsets_of ends b m → listed' ≡ listed_of ends b m →
+      PointListsCall m b ends offsets listed (Ok tt) offsets' listed'
   call-passed h o l = record { answered = sym h ∙ e; offsets_out = o; listed_out = l }

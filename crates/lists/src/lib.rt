@@ -7,7 +7,7 @@ mod sort;
 ghost use Rattle.lists.specs.PointLists.{PointListsCall};
 
 use entry::check;
-use network::Verdict;
+use network::Refusal;
 use sort::sort_rows;
 
 // Fills the m + 1 offsets and the b row numbers of the point lists. `ends` holds camera and point of each bearing,
@@ -18,14 +18,11 @@ pub fn list_points(
     ends: &[usize],
     offsets: &mut [usize],
     listed: &mut [usize],
-) -> Verdict
+) -> Result<(), Refusal>
     ensures { PointListsCall m b ends.now offsets.old listed.old result
         offsets.new listed.new }
 {
-    let verdict = check(m, b, ends, offsets.len(), listed.len());
-    if let Verdict::Refused(r) = verdict {
-        return Verdict::Refused(r);
-    }
+    check(m, b, ends, offsets.len(), listed.len())?;
     sort_rows(m, b, ends, offsets, listed);
-    Verdict::Passed
+    Ok(())
 }

@@ -1,5 +1,6 @@
 -- How the lists are tested (specs/inner/Marks) and refusal 6 come to the same. Places that are fit one after another name bearings, none of them
 -- twice; and B different mentions leave none of B rows out. Assumes nothing.
+use Rattle.std.proofs.Common.{None, Option, Some}
 use mathlib.Core.Path.{◌≡◌, refl, sym, ap, ap₂, ◌∙◌}
 use mathlib.Core.Logic.{⊎_elim, dite}
 use mathlib.Core.List.{List}
@@ -12,12 +13,12 @@ use native.Mathlib.Omega.{arith}
 use lib.ListN.{get_or, length}
 use lib.Dec.{eqb, leb}
 use borrow.Author.Tests.{ltb-false, leb-false, eqb-true, not-false, not-true, lt-leb, eq-eqb, ne_eqb}
-use Rattle.field.specs.declared.Place.{Place}
-use Rattle.field.specs.declared.Place.TheVariants.{At, Nowhere}
-use Rattle.field.specs.Count.{count_below, indicator, sum_below}
+use Rattle.std.specs.Int.{from_bool}
+use Rattle.field.specs.Count.{count_below, sum_below}
 use Rattle.field.proofs.Counting.{lowest-none, none_of}
 use Rattle.field.proofs.Sums.{count-grows, count-more, count_none, sum-ext, sum-full, sum_one, sum_same, sum-swap}
-use Rattle.network.specs.Lists.{absent, none, falls, offsets_rise, misplaced, has_misplaced, named, miscounted, lists_hold}
+use Rattle.std.specs.Option.{is_none}
+use Rattle.network.specs.Lists.{none, falls, offsets_rise, misplaced, has_misplaced, named, miscounted, lists_hold}
 use Rattle.double.proofs.Truth.{both_true, neither}
 use Rattle.network.specs.Network.{second_end}
 use Rattle.network.specs.inner.Marks.{has_unfit, unfit}
@@ -25,17 +26,17 @@ use Rattle.network.specs.inner.Sound.{OffsetsSound}
 
 -- ---- none
 
-absent-nowhere : (p : Place) → absent p ≡ true → p ≡ Nowhere
-absent-nowhere (At i) e = absurd (let z : ◌≡◌ {A = ℕ} 0 1 = cc in omega arith)
-absent-nowhere Nowhere e = refl
+none-from_test : (p : Option ℕ) → is_none p ≡ true → p ≡ None
+none-from_test (Some i) e = absurd (let z : ◌≡◌ {A = ℕ} 0 1 = cc in omega arith)
+none-from_test None e = refl
 
 pub none_each : (p : ℕ → Bool) (n : ℕ) → none p n ≡ true → (k : ℕ) → k < n → p k ≡ false
 unfolding none
-none_each p n e = none_of p n (absent-nowhere _ e)
+none_each p n e = none_of p n (none-from_test _ e)
 
 pub each_none : (p : ℕ → Bool) (n : ℕ) → ((k : ℕ) → k < n → p k ≡ false) → none p n ≡ true
 unfolding none
-each_none p n h = ap absent (lowest-none p n h)
+each_none p n h = ap is_none (lowest-none p n h)
 
 -- a loop that looks for one: before it starts, where place i has not the property, and where it has
 pub none-zero : (p : ℕ → Bool) → none p 0 ≡ true
@@ -63,7 +64,7 @@ module _ (listed : List ℕ) where
   unfolding named
   named-zero r = count_none (λ k. eqb (get_or listed k 0) r)
 
-  named_more : (r n : ℕ) → named listed r (n + 1) ≡ named listed r n + indicator (eqb (get_or listed n 0) r)
+  named_more : (r n : ℕ) → named listed r (n + 1) ≡ named listed r n + from_bool (eqb (get_or listed n 0) r)
   unfolding named
   named_more r n = sym (count-more (λ k. eqb (get_or listed k 0) r) n _ _ refl refl)
 
@@ -81,7 +82,7 @@ module _ (listed : List ℕ) where
   sum-named : (b n : ℕ) → ((k : ℕ) → k < n → get_or listed k 0 < b) → sum_below (λ r. named listed r n) b ≡ n
   unfolding named count_below
   sum-named b n h =
-      sum-swap (λ r k. indicator (eqb (get_or listed k 0) r)) b n
+      sum-swap (λ r k. from_bool (eqb (get_or listed k 0) r)) b n
       ∙ sum-ext _ (λ k. 1) n (λ k l. sum_one (get_or listed k 0) b (h k l))
       ∙ sum_same 1 n
       ∙ (let e : 1 * n ≡ n = omega arith in e)
@@ -91,7 +92,7 @@ module _ (listed : List ℕ) where
   named-most r zero h = let e = named-zero r in omega arith
   named-most r (suc n) h = rw (← add-one n, named_more r n) (go (eqb (get_or listed n 0) r) refl (named-most r n (λ k l. h k (omega arith))))
     where
-      go : (t : Bool) → eqb (get_or listed n 0) r ≡ t → named listed r n ≤ 1 → named listed r n + indicator t ≤ 1
+      go : (t : Bool) → eqb (get_or listed n 0) r ≡ t → named listed r n ≤ 1 → named listed r n + from_bool t ≤ 1
       go true e m = let z : named listed r n ≡ 0 = sym (ap (λ t. named listed t n) (eqb-true (get_or listed n 0) r e)) ∙ h n (omega arith) in omega arith
       go false e m = omega arith
 
@@ -112,7 +113,7 @@ module _ (listed : List ℕ) where
   named_some r zero h = absurd (let e = named-zero r in omega arith)
   named_some r (suc n) h = go (eqb (get_or listed n 0) r) refl (rw (← add-one n, named_more r n) at h) (named_some r n)
     where
-      go : (t : Bool) → eqb (get_or listed n 0) r ≡ t → 0 < named listed r n + indicator t → (0 < named listed r n → (k : ℕ) × (k < n) × (get_or listed k 0 ≡ r)) →
+      go : (t : Bool) → eqb (get_or listed n 0) r ≡ t → 0 < named listed r n + from_bool t → (0 < named listed r n → (k : ℕ) × (k < n) × (get_or listed k 0 ≡ r)) →
           (k : ℕ) × (k < suc n) × (get_or listed k 0 ≡ r)
       go true e h f = (n, omega arith, eqb-true _ _ e)
       go false e h f = let u = f (omega arith) in (u.0, omega (arith, u.1), u.2)

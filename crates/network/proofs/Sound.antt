@@ -1,4 +1,6 @@
 -- What a call knows whose tests refuse nothing, stage by stage. Assumes nothing.
+use Rattle.network.specs.declared.Cause.TheVariants.{Cameras, Domain, Lengths, Loop, OutOfRange, PointLists, Route, Sizes}
+use Rattle.std.proofs.Common.{Err, None, Ok}
 use mathlib.Core.Path.{◌≡◌, refl, sym, ap, ap₂, ◌∙◌}
 use mathlib.Core.List.{List, [], ◌∷◌, ◌++◌}
 use mathlib.Core.Bool.{Bool, true, false, cond, not, ◌&&◌, ◌||◌, true≢false}
@@ -10,16 +12,15 @@ use lib.Dec.{eqb, ltb}
 use lib.Ieee.{Float, nan, lt}
 use lib.Ieee.Scale.{finite}
 use borrow.Author.Tests.{ltb-false, leb-false, eqb-true, eqb-false, not-false, lt-ltb, le-ltb, le-leb, eq-eqb}
+use Rattle.std.proofs.Math.Bool.{or_assoc}
 use Rattle.double.proofs.Truth.{both_true, neither}
 use Rattle.field.specs.declared.Vec3.{Vec3}
-use Rattle.field.specs.declared.Place.TheVariants.{Nowhere}
 use Rattle.field.specs.Vec.{Axis, X, Y, Z, on, null, is_finite}
 use Rattle.field.specs.Buffer.{get, vector}
 use Rattle.field.proofs.Counting.{none_of}
 use Rattle.network.specs.declared.Shape.{Shape}
-use Rattle.network.specs.declared.Verdict.{Verdict}
+use Rattle.network.specs.Refusals.{Verdict}
 use Rattle.network.specs.declared.Refusal.{Refusal}
-use Rattle.network.specs.declared.Verdict.TheVariants.{Refused, Passed}
 use Rattle.network.specs.Network.{Graph, Links, Network, links, rows, first_end, second_end, span_of, row_at}
 use Rattle.network.specs.Refusals.{verdict, Section, running, bad_weight, bad_scale, bad_vector, bad_row, bad_cameras, bad_counts, count_tests, ends_fit, rays_fit, vectors_fit, lists_fit}
 use Rattle.network.specs.Refusals.{content_fits, network_fits, length_tests, strays, loops, end_tests, list_tests, weight_tests, row_sections, domain_tests, bad_route, route_tests, dense_rows}
@@ -30,36 +31,36 @@ use Rattle.network.proofs.Sections.{running-passed}
 use Rattle.network.proofs.PointLists.{locate, named_some, lists-parts, is-bearing, own-point, once}
 
 -- what a test of one list says
-only : (v : Verdict) → verdict (v ∷ []) ≡ Passed → v ≡ Passed
+only : (v : Verdict) → verdict (v ∷ []) ≡ Ok tt → v ≡ Ok tt
 only v e = sym (verdict-one v) ∙ e
 
 -- ---- 1 and 2
 
-pub counts-sound : (s : Shape) → verdict (count_tests s) ≡ Passed → ShapeSound s
+pub counts-sound : (s : Shape) → verdict (count_tests s) ≡ Ok tt → ShapeSound s
 unfolding count_tests bad_cameras bad_counts
 counts-sound s e =
     let h = first-passed _ _ e in
-    let a = neither _ _ (test-passed 1 _ h.0) in
-    let b = neither (ltb 65536 s.points) _ (test-passed 2 _ (only _ h.1)) in
+    let a = neither _ _ (test-passed Cameras _ h.0) in
+    let b = neither (ltb 65536 s.points) _ (test-passed Sizes _ (only _ h.1)) in
     let d = neither (ltb 262144 s.bearings) (ltb 65536 s.directions) b.1 in
     let some : s.cameras ≡ 0 → ⊥ = eqb-false _ _ a.0 in
     record { some = omega (arith, some); cameras = ltb-false _ _ a.1; points = ltb-false _ _ b.0; bearings = ltb-false _ _ d.0; directions = ltb-false _ _ d.1 }
 
 -- a function that made the tests and goes on
-pub counted : {s : Shape} {x : Verdict} → x ≡ verdict (count_tests s) → x ≡ Passed → ShapeSound s
+pub counted : {s : Shape} {x : Verdict} → x ≡ verdict (count_tests s) → x ≡ Ok tt → ShapeSound s
 counted {s} e h = counts-sound s (sym e ∙ h)
 
 -- ---- 3
 
-pub lengths-fit : (fit : Bool) → verdict (length_tests fit) ≡ Passed → fit ≡ true
+pub lengths-fit : (fit : Bool) → verdict (length_tests fit) ≡ Ok tt → fit ≡ true
 unfolding length_tests
-lengths-fit fit e = not-false _ (test-passed 3 _ (only _ e))
+lengths-fit fit e = not-false _ (test-passed Lengths _ (only _ e))
 
-pub fit-lengths : {fit : Bool} → fit ≡ true → verdict (length_tests fit) ≡ Passed
+pub fit-lengths : {fit : Bool} → fit ≡ true → verdict (length_tests fit) ≡ Ok tt
 unfolding length_tests
-fit-lengths e = verdict-one _ ∙ passed-test 3 (ap not e)
+fit-lengths e = verdict-one _ ∙ passed-test Lengths (ap not e)
 
-pub measured : {fit f : Bool} {x : Verdict} → x ≡ verdict (length_tests fit) → x ≡ Passed → fit ≡ f → f ≡ true
+pub measured : {fit f : Bool} {x : Verdict} → x ≡ verdict (length_tests fit) → x ≡ Ok tt → fit ≡ f → f ≡ true
 measured e h k = sym k ∙ lengths-fit _ (sym e ∙ h)
 
 pub ends-fit : (r : ℕ) (ends : List ℕ) (weights : List Float) → ends_fit r ends weights ≡ true → (length ends ≡ 2 * r) × (length weights ≡ r)
@@ -105,12 +106,12 @@ row_apart : (b : ℕ) (ends : List ℕ) (r : ℕ) → loops b ends r ≡ false �
 unfolding loops
 row_apart b ends r e h k = true≢false (sym (ap₂ ◌&&◌ (le-leb b r h) (eq-eqb _ _ k)) ∙ e)
 
-pub ends-sound : (s : Shape) (ends : List ℕ) → ShapeSound s → length ends ≡ 2 * rows s → verdict (end_tests s ends) ≡ Passed → EndsSound s ends
+pub ends-sound : (s : Shape) (ends : List ℕ) → ShapeSound s → length ends ≡ 2 * rows s → verdict (end_tests s ends) ≡ Ok tt → EndsSound s ends
 unfolding end_tests
 ends-sound s ends t f e =
     let h = first-passed _ _ e in
-    let strays-not : (r : ℕ) → r < rows s → strays s.cameras s.points s.bearings ends r ≡ false = none_of _ _ (test-at-passed 4 _ h.0) in
-    let loops-not : (r : ℕ) → r < rows s → loops s.bearings ends r ≡ false = none_of _ _ (test-at-passed 5 _ (only _ h.1)) in
+    let strays-not : (r : ℕ) → r < rows s → strays s.cameras s.points s.bearings ends r ≡ false = none_of _ _ (test-at-passed OutOfRange _ h.0) in
+    let loops-not : (r : ℕ) → r < rows s → loops s.bearings ends r ≡ false = none_of _ _ (test-at-passed Loop _ (only _ h.1)) in
     record {
       shape = t;
       size = f;
@@ -122,11 +123,11 @@ ends-sound s ends t f e =
 
 -- ---- 6
 
-pub links-sound : (s : Shape) (ends offsets listed : List ℕ) → EndsSound s ends → length offsets ≡ s.points + 1 → length listed ≡ s.bearings → verdict (list_tests s ends offsets listed) ≡ Passed →
+pub links-sound : (s : Shape) (ends offsets listed : List ℕ) → EndsSound s ends → length offsets ≡ s.points + 1 → length listed ≡ s.bearings → verdict (list_tests s ends offsets listed) ≡ Ok tt →
     LinksSound (links s ends offsets listed)
 unfolding list_tests
 links-sound s ends offsets listed E o l e =
-    let t = lists-parts s.points s.bearings ends offsets listed o (not-false _ (test-passed 6 _ (only _ e))) in
+    let t = lists-parts s.points s.bearings ends offsets listed o (not-false _ (test-passed PointLists _ (only _ e))) in
     record {
       ends = E;
       offsets = t.0;
@@ -171,30 +172,30 @@ row-domain weights scales rays r e =
     let k = neither (bad_scale scales r) (bad_vector rays r) h.1 in
     (h.0, k.0, k.1)
 
-weights-sound : (s : Shape) (weights : List Float) → verdict (weight_tests s weights) ≡ Passed → (r : ℕ) → r < rows s → bad_weight weights r ≡ false
+weights-sound : (s : Shape) (weights : List Float) → verdict (weight_tests s weights) ≡ Ok tt → (r : ℕ) → r < rows s → bad_weight weights r ≡ false
 unfolding weight_tests
-weights-sound s weights e = none_of _ _ (test-at-passed 7 _ (only _ e))
+weights-sound s weights e = none_of _ _ (test-at-passed Domain _ (only _ e))
 
 -- rows, points, and what sections of camera positions there are
-pub domain-sound : (s : Shape) (rays weights scales positions : List Float) (cameras : List Section) → verdict (domain_tests (row_sections s rays weights scales positions ++ cameras)) ≡ Passed →
-    ((r : ℕ) → r < rows s → bad_row weights scales rays r ≡ false) × ((p : ℕ) → p < s.points → bad_vector positions p ≡ false) × (running cameras ≡ Nowhere)
+pub domain-sound : (s : Shape) (rays weights scales positions : List Float) (cameras : List Section) → verdict (domain_tests (row_sections s rays weights scales positions ++ cameras)) ≡ Ok tt →
+    ((r : ℕ) → r < rows s → bad_row weights scales rays r ≡ false) × ((p : ℕ) → p < s.points → bad_vector positions p ≡ false) × (running cameras ≡ None)
 unfolding domain_tests
 domain-sound s rays weights scales positions cameras e =
-    let a = running-passed _ _ _ (test-at-passed 7 _ (only _ e)) in
+    let a = running-passed _ _ _ (test-at-passed Domain _ (only _ e)) in
     let b = running-passed _ _ _ a.1 in
     (a.0, b.0, b.1)
 
 -- ---- stages that several calls share
 
-pub graph-sound : (g : Graph) → ShapeSound g.shape → ends_fit (rows g.shape) g.ends g.weights ≡ true → verdict (graph_row_tests g) ≡ Passed → GraphSound g
+pub graph-sound : (g : Graph) → ShapeSound g.shape → ends_fit (rows g.shape) g.ends g.weights ≡ true → verdict (graph_row_tests g) ≡ Ok tt → GraphSound g
 unfolding graph_row_tests
 graph-sound g s f e =
     let h = stage-passed (end_tests g.shape g.ends) _ e in
     let l = ends-fit _ _ _ f in
     record { ends = ends-sound _ _ s l.0 h.0; weights = l.1; weight = weights-sound _ _ h.1 }
 
-pub network-sound : (net : Network) (cameras : List Section) → ShapeSound net.shape → network_fits net ≡ true → verdict (network_row_tests net cameras) ≡ Passed →
-    NetworkSound net × (running cameras ≡ Nowhere)
+pub network-sound : (net : Network) (cameras : List Section) → ShapeSound net.shape → network_fits net ≡ true → verdict (network_row_tests net cameras) ≡ Ok tt →
+    NetworkSound net × (running cameras ≡ None)
 unfolding network_row_tests link_tests
 network-sound net cameras s f e =
     let n = network-fits net f in
@@ -212,7 +213,7 @@ network-sound net cameras s f e =
     )
 
 -- 1 to 7
-pub tests-sound : (net : Network) → verdict (network_tests net) ≡ Passed → NetworkSound net
+pub tests-sound : (net : Network) → verdict (network_tests net) ≡ Ok tt → NetworkSound net
 unfolding network_tests
 tests-sound net e =
     let h = stage-passed (count_tests net.shape) _ e in
@@ -225,24 +226,24 @@ module _ (s : Shape) (fit : Bool) (ends marks : List ℕ) {x : Verdict} (c : x �
   abbrev after : List ℕ
   after = marks_after (verdict (early_tests s fit ends)) s.bearings marks
 
-  pub kept-by-counts : {r : Refusal} → x ≡ Refused r → marks ≡ after
+  pub kept-by-counts : {r : Refusal} → x ≡ Err r → marks ≡ after
   unfolding early_tests
   kept-by-counts h = marks-halt (count_tests s) s.bearings marks c _ h
 
-  module _ {v : Verdict} (p : x ≡ Passed) (f : v ≡ verdict (length_tests fit)) where
-    pub kept-by-lengths : {r : Refusal} → v ≡ Refused r → marks ≡ after
+  module _ {v : Verdict} (p : x ≡ Ok tt) (f : v ≡ verdict (length_tests fit)) where
+    pub kept-by-lengths : {r : Refusal} → v ≡ Err r → marks ≡ after
     unfolding early_tests
     kept-by-lengths h = marks-pass (count_tests s) s.bearings marks c _ p (marks-halt (length_tests fit) s.bearings marks f _ h)
 
-    pub left-by-rows : {marks' : List ℕ} → v ≡ Passed → marks' ≡ marks_after (verdict (end_tests s ends)) s.bearings marks → marks' ≡ after
+    pub left-by-rows : {marks' : List ℕ} → v ≡ Ok tt → marks' ≡ marks_after (verdict (end_tests s ends)) s.bearings marks → marks' ≡ after
     unfolding early_tests
     left-by-rows q k = marks-pass (count_tests s) s.bearings marks c _ p (marks-pass (length_tests fit) s.bearings marks f _ q k)
 
 -- ---- 8
 
-pub route-sound : (route limit : ℕ) → verdict (route_tests route limit) ≡ Passed → bad_route route limit ≡ false
+pub route-sound : (route limit : ℕ) → verdict (route_tests route limit) ≡ Ok tt → bad_route route limit ≡ false
 unfolding route_tests
-route-sound route limit e = test-passed 8 _ (only _ e)
+route-sound route limit e = test-passed Route _ (only _ e)
 
 -- d is within the dense limit, and the dense limit is small
 limit-small : (route limit : ℕ) → bad_route route limit ≡ false → limit ≤ 256
@@ -264,13 +265,9 @@ dense-small n route limit = go (bad_route route limit) (eqb route 2) (ltb limit 
 pub square-small : (d : ℕ) → d ≤ 256 → d * d ≤ 65536
 square-small d h = mul-le-mul h h
 
-module _ (n route limit d : ℕ) (a b x : Bool) (ex : x ≡ bad_route route limit) (ea : a ≡ (eqb route 2 || ltb limit (n - 1))) (eb : b ≡ (x || a)) (ed : d ≡ cond b 0 (n - 1)) where
-  pub dense-is : d ≡ dense_rows n route limit
-  unfolding dense_rows
-  dense-is = rw (← ex, ← ea, ← eb) ed
-
-  pub dense-within : d ≤ 256
-  dense-within = rw dense-is (dense-small n route limit)
+pub dense-is : (n route limit : ℕ) {x b : Bool} → x ≡ bad_route route limit → (x || eqb route 2 || ltb limit (n - 1)) ≡ b → cond b 0 (n - 1) ≡ dense_rows n route limit
+unfolding dense_rows
+dense-is n route limit e f = rw (← f, or_assoc, e)
 
 -- ---- what is read of the links is in range
 

@@ -1,18 +1,13 @@
 -- Refusal 6 (document 01, 'Size and domain': 'Point lists (m+1 offsets from 0 to B, never falling, and B row numbers) name every bearing once,
 -- under its own point'; R-6: 'any order under a point').
-use Rattle.std.specs.Prelude.{ℕ, ◌+◌, ◌-◌, List, Bool, true, false, not, ◌&&◌, ◌||◌, get_or, eqb, ltb, leb}
-use Rattle.field.specs.declared.Place.{Place}
-use Rattle.field.specs.declared.Place.TheVariants.{At, Nowhere}
+use Rattle.std.specs.Option.{is_none}
+use Rattle.std.specs.Prelude.{ℕ, ◌+◌, ◌-◌, List, Bool, not, ◌&&◌, ◌||◌, get_or, eqb, ltb, leb}
 use Rattle.field.specs.Count.{lowest, count_below}
 use Rattle.network.specs.Network.{second_end}
 
-abbrev pub absent : Place → Bool
-absent (At i) = false
-absent Nowhere = true
-
 -- none of 0, .. n - 1 has the property
 unfoldable pub none : (ℕ → Bool) → ℕ → Bool
-none p n = absent (lowest p n)
+none p n = is_none (lowest p n)
 
 -- offset p + 1 is below offset p
 unfoldable pub falls : List ℕ → ℕ → Bool

@@ -41,6 +41,14 @@ network s ends rays weights scales positions offsets listed = record {
   listed = listed;
 }
 
+-- The rows' ends.
+pub record RowEnds : Type 0 where
+  pub shape : Shape
+  pub ends : List ℕ
+
+abbrev pub row_ends : Shape → List ℕ → RowEnds
+row_ends s ends = record { shape = s; ends = ends }
+
 -- What a graph call is lent: the rows' ends and weights.
 pub record Graph : Type 0 where
   pub shape : Shape

@@ -1,42 +1,67 @@
 -- Refusals 1 to 8 (document 01, 'Refused calls'): tested in number order, each at its lowest place.
+use Rattle.network.specs.declared.Cause.TheVariants as cause
+use Rattle.std.specs.Prelude.{Err, None, Ok, Option, Result, Some}
 use Rattle.std.specs.Prelude.{ℕ, ◌+◌, ◌-◌, ◌*◌, List, [], ◌∷◌, ◌++◌, Bool, cond, not, ◌&&◌, ◌||◌, length, get_or, replicate, eqb, ltb, leb, Float}
 use Rattle.std.specs.Float.{nan}
 use Rattle.std.specs.Float.Ieee.{lt}
 use Rattle.std.specs.Float.Ieee.Scale.{finite}
-use Rattle.field.specs.declared.Place.{Place}
-use Rattle.field.specs.declared.Place.TheVariants.{At, Nowhere}
 use Rattle.field.specs.Vec.{null, is_finite}
-use Rattle.field.specs.Count.{lowest, or_else, shift}
+use Rattle.std.specs.Option.{option_or}
+use Rattle.std.specs.Result.{result_and}
+use Rattle.field.specs.Count.{lowest, shift}
 use Rattle.field.specs.Buffer.{get, vector}
-use Rattle.network.specs.declared.Verdict.{Verdict}
-use Rattle.network.specs.declared.Verdict.TheVariants.{Refused, Passed}
+use Rattle.network.specs.declared.Cause.{Cause}
+use Rattle.network.specs.declared.Refusal.{Refusal}
 use Rattle.network.specs.declared.Shape.{Shape}
 use Rattle.network.specs.Network.{Graph, Network, rows, first_end, second_end}
 use Rattle.network.specs.Lists.{lists_hold}
 
+-- ---- a refusal's number, as the table of causes has it
+
+abbrev pub number : Cause → ℕ
+number cause.Cameras = 1
+number cause.Sizes = 2
+number cause.Lengths = 3
+number cause.OutOfRange = 4
+number cause.Loop = 5
+number cause.PointLists = 6
+number cause.Domain = 7
+number cause.Route = 8
+number cause.Diagonal = 9
+number cause.Curvature = 11
+number cause.Product = 12
+number cause.Residual = 13
+number cause.Dimension = 14
+number cause.Pivot = 15
+number cause.Factor = 16
+number cause.Solution = 17
+number cause.Head = 20
+number cause.Pairs = 21
+number cause.Section = 22
+number cause.Room = 23
+
 -- ---- tests in order
 
-abbrev pub refuse : ℕ → ℕ → Verdict
-refuse k p = Refused (record { number = k; place = p })
+-- what a test says: nothing, or a refusal
+abbrev pub Verdict : Type 0
+Verdict = Result (Unit {0}) Refusal
 
--- number k at place 0, where b holds
-unfoldable pub test : ℕ → Bool → Verdict
-test k b = cond b (refuse k 0) Passed
+abbrev pub refuse : Cause → ℕ → Verdict
+refuse k p = Err (record { cause = k; place = p })
 
--- number k at a place, where there is one
-unfoldable pub test_at : ℕ → Place → Verdict
-test_at k (At r) = refuse k r
-test_at k Nowhere = Passed
+-- the cause k at place 0, where b holds
+unfoldable pub test : Cause → Bool → Verdict
+test k b = cond b (refuse k 0) (Ok tt)
 
--- one verdict, and where it passes the next
-unfoldable pub and_then : Verdict → Verdict → Verdict
-and_then (Refused r) w = Refused r
-and_then Passed w = w
+-- the cause k at a place, where there is one
+unfoldable pub test_at : Cause → Option ℕ → Verdict
+test_at k (Some r) = refuse k r
+test_at k None = (Ok tt)
 
 -- the first refusal of tests that are made in this order
 unfoldable pub verdict : List Verdict → Verdict
-verdict [] = Passed
-verdict (v ∷ vs) = and_then v (verdict vs)
+verdict [] = (Ok tt)
+verdict (v ∷ vs) = result_and v (verdict vs)
 
 -- ---- places that are counted through
 
@@ -49,9 +74,9 @@ abbrev pub section : ℕ → (ℕ → Bool) → Section
 section n p = record { count = n; bad = p }
 
 -- the lowest bad place, counted through sections that follow one another
-unfoldable pub running : List Section → Place
-running [] = Nowhere
-running (s ∷ ss) = or_else (lowest s.bad s.count) (shift s.count (running ss))
+unfoldable pub running : List Section → Option ℕ
+running [] = None
+running (s ∷ ss) = option_or (lowest s.bad s.count) (shift s.count (running ss))
 
 -- ---- A call's tests are stages, one after another: 1 and 2, then 3, and so on. Each stage is a list of tests.
 
@@ -66,7 +91,7 @@ unfoldable pub bad_counts : Shape → Bool
 bad_counts s = ltb 65536 s.points || (ltb 262144 s.bearings || ltb 65536 s.directions)
 
 unfoldable pub count_tests : Shape → List Verdict
-count_tests s = test 1 (bad_cameras s) ∷ test 2 (bad_counts s) ∷ []
+count_tests s = test cause.Cameras (bad_cameras s) ∷ test cause.Sizes (bad_counts s) ∷ []
 
 -- ---- 3: the lengths that a call's slices must have. A call names those that it is lent.
 
@@ -99,7 +124,7 @@ network_fits net =
     && lists_fit s.points s.bearings net.offsets net.listed
 
 unfoldable pub length_tests : Bool → List Verdict
-length_tests fit = test 3 (not fit) ∷ []
+length_tests fit = test cause.Lengths (not fit) ∷ []
 
 -- ---- 4 and 5: the rows' ends
 
@@ -113,20 +138,20 @@ loops b ends r = leb b r && eqb (first_end ends r) (second_end ends r)
 
 unfoldable pub end_tests : Shape → List ℕ → List Verdict
 end_tests s ends =
-    test_at 4 (lowest (strays s.cameras s.points s.bearings ends) (rows s))
-    ∷ test_at 5 (lowest (loops s.bearings ends) (rows s))
+    test_at cause.OutOfRange (lowest (strays s.cameras s.points s.bearings ends) (rows s))
+    ∷ test_at cause.Loop (lowest (loops s.bearings ends) (rows s))
     ∷ []
 
 -- ---- 6: the point lists
 
 unfoldable pub list_tests : Shape → List ℕ → List ℕ → List ℕ → List Verdict
-list_tests s ends offsets listed = test 6 (not (lists_hold s.points s.bearings ends offsets listed)) ∷ []
+list_tests s ends offsets listed = test cause.PointLists (not (lists_hold s.points s.bearings ends offsets listed)) ∷ []
 
 -- R-6: 'a mark buffer of B numbers .. ends all zero once 6 has been tested', whatever 6 or a later test then says. The verdict is that of the tests
 -- before 6: where one of these refuses, the b marks stay as they were.
 abbrev pub marks_after : Verdict → ℕ → List ℕ → List ℕ
-marks_after (Refused r) b marks = marks
-marks_after Passed b marks = replicate b 0
+marks_after (Err r) b marks = marks
+marks_after (Ok tt) b marks = replicate b 0
 
 -- ---- 7: the domain
 
@@ -147,7 +172,7 @@ bad_row weights scales rays r = bad_weight weights r || (bad_scale scales r || b
 
 -- the weight part of 7, which is all that graph calls test
 unfoldable pub weight_tests : Shape → List Float → List Verdict
-weight_tests s weights = test_at 7 (lowest (bad_weight weights) (rows s)) ∷ []
+weight_tests s weights = test_at cause.Domain (lowest (bad_weight weights) (rows s)) ∷ []
 
 -- rows and old points are counted through
 abbrev pub row_sections : Shape → List Float → List Float → List Float → List Float → List Section
@@ -155,7 +180,7 @@ row_sections s rays weights scales positions =
     section (rows s) (bad_row weights scales rays) ∷ section s.points (bad_vector positions) ∷ []
 
 unfoldable pub domain_tests : List Section → List Verdict
-domain_tests sections = test_at 7 (running sections) ∷ []
+domain_tests sections = test_at cause.Domain (running sections) ∷ []
 
 -- ---- 8: the route
 
@@ -164,7 +189,7 @@ unfoldable pub bad_route : ℕ → ℕ → Bool
 bad_route route limit = ltb route 1 || (ltb 3 route || ltb 256 limit)
 
 unfoldable pub route_tests : ℕ → ℕ → List Verdict
-route_tests route limit = test 8 (bad_route route limit) ∷ []
+route_tests route limit = test cause.Route (bad_route route limit) ∷ []
 
 -- d: n - 1 where the route may go dense within the limit, else 0; 0 too where 8 would refuse
 unfoldable pub dense_rows : ℕ → ℕ → ℕ → ℕ

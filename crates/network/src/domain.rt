@@ -6,10 +6,10 @@ ghost use Rattle.network.specs.Refusals.{verdict, section, running, bad_weight, 
 ghost use Rattle.network.specs.Refusals.{domain_tests};
 ghost use Rattle.network.specs.inner.Sound.{ShapeSound, DomainLengths};
 
-use crate::answers::{either, refused_at};
-use crate::{Shape, Verdict};
+use crate::answers::refused_at;
+use crate::{Cause, Refusal, Shape};
 use double::{all_finite, is_nonnegative, is_positive};
-use field::{Place, get3};
+use field::get3;
 
 // The weight of row r is not finite, or below zero.
 fn bad_weight_at(weights: &[f64], r: usize) -> bool
@@ -20,18 +20,11 @@ fn bad_weight_at(weights: &[f64], r: usize) -> bool
 }
 
 // The lowest of `count` rows whose weight is outside the domain.
-fn find_bad_weight(weights: &[f64], count: usize) -> Place
+fn find_bad_weight(weights: &[f64], count: usize) -> Option<usize>
     requires { count ≤ length weights.now }
     ensures { result ≡ lowest (bad_weight weights.now) count }
 {
-    let mut r = 0usize;
-    while r < count {
-        if bad_weight_at(weights, r) {
-            return Place::At(r);
-        }
-        r += 1;
-    }
-    Place::Nowhere
+    (0..count).find(|&r| bad_weight_at(weights, r))
 }
 
 // The scale of row r is not finite, or not above zero.
@@ -52,18 +45,11 @@ fn bad_vector_at(s: &[f64], i: usize) -> bool
 }
 
 // The lowest of `count` vectors that is not finite.
-pub fn find_bad_vector(s: &[f64], count: usize) -> Place
+pub fn find_bad_vector(s: &[f64], count: usize) -> Option<usize>
     requires { 3 * count ≤ length s.now }
     ensures { result ≡ lowest (bad_vector s.now) count }
 {
-    let mut i = 0usize;
-    while i < count {
-        if bad_vector_at(s, i) {
-            return Place::At(i);
-        }
-        i += 1;
-    }
-    Place::Nowhere
+    (0..count).find(|&i| bad_vector_at(s, i))
 }
 
 // The weight, scale or ray of row r is outside the domain.
@@ -73,45 +59,37 @@ fn bad_row_at(weights: &[f64], scales: &[f64], rays: &[f64], r: usize) -> bool
     requires rays_in_bounds { 3 * r + 3 ≤ length rays.now }
     ensures { result ≡ bad_row weights.now scales.now rays.now r }
 {
-    either(
-        bad_weight_at(weights, r),
-        either(bad_scale_at(scales, r), bad_vector_at(rays, r)),
-    )
+    bad_weight_at(weights, r) | bad_scale_at(scales, r) | bad_vector_at(rays, r)
 }
 
 // The lowest of `count` rows that is outside the domain.
-fn find_bad_row(weights: &[f64], scales: &[f64], rays: &[f64], count: usize) -> Place
+fn find_bad_row(weights: &[f64], scales: &[f64], rays: &[f64], count: usize) -> Option<usize>
     requires count_in_bounds { count ≤ length weights.now }
     requires scales_in_bounds { count ≤ length scales.now }
     requires rays_in_bounds { 3 * count ≤ length rays.now }
     ensures { result ≡ lowest (bad_row weights.now scales.now rays.now) count }
 {
-    let mut r = 0usize;
-    while r < count {
-        if bad_row_at(weights, scales, rays, r) {
-            return Place::At(r);
-        }
-        r += 1;
-    }
-    Place::Nowhere
+    (0..count).find(|&r| bad_row_at(weights, scales, rays, r))
 }
 
 // The lowest place outside the domain, counted through the rows and the points.
-fn find_outside(s: Shape, rays: &[f64], weights: &[f64], scales: &[f64], points: &[f64]) -> Place
+fn find_outside(
+    s: Shape,
+    rays: &[f64],
+    weights: &[f64],
+    scales: &[f64],
+    points: &[f64],
+) -> Option<usize>
     requires shape_sound { ShapeSound s }
     requires domain_lengths { DomainLengths s rays.now weights.now scales.now points.now }
     ensures { result ≡ running (row_sections s rays.now weights.now scales.now points.now) }
 {
     let count = s.bearings + s.directions;
-    let row = find_bad_row(weights, scales, rays, count);
-    if let Place::At(r) = row {
-        return Place::At(r);
+    if let Some(r) = find_bad_row(weights, scales, rays, count) {
+        return Some(r);
     }
-    let point = find_bad_vector(points, s.points);
-    if let Place::At(p) = point {
-        return Place::At(count + p);
-    }
-    Place::Nowhere
+    let p = find_bad_vector(points, s.points)?;
+    Some(count + p)
 }
 
 // The same, and then through the n cameras.
@@ -122,30 +100,29 @@ fn find_placed_outside(
     scales: &[f64],
     points: &[f64],
     cameras: &[f64],
-) -> Place
+) -> Option<usize>
     requires shape_sound { ShapeSound s }
     requires domain_lengths { DomainLengths s rays.now weights.now scales.now points.now }
     requires cameras_len { length cameras.now ≡ 3 * s.cameras }
     ensures { result ≡ running (row_sections s rays.now weights.now scales.now points.now
         ++ (section s.cameras (bad_vector cameras.now) ∷ [])) }
 {
-    let place = find_outside(s, rays, weights, scales, points);
-    if let Place::At(p) = place {
-        return Place::At(p);
+    if let Some(r) = find_outside(s, rays, weights, scales, points) {
+        return Some(r);
     }
-    let camera = find_bad_vector(cameras, s.cameras);
-    if let Place::At(i) = camera {
-        return Place::At(s.bearings + s.directions + (s.points + i));
-    }
-    Place::Nowhere
+    let i = find_bad_vector(cameras, s.cameras)?;
+    Some(s.bearings + s.directions + (s.points + i))
 }
 
 // The weight part of 7.
-pub(crate) fn check_weights(s: Shape, weights: &[f64]) -> Verdict
+pub(crate) fn check_weights(s: Shape, weights: &[f64]) -> Result<(), Refusal>
     requires { length weights.now ≡ rows s }
     ensures { result ≡ verdict (weight_tests s weights.now) }
 {
-    refused_at(7, find_bad_weight(weights, s.bearings + s.directions))
+    refused_at(
+        Cause::Domain,
+        find_bad_weight(weights, s.bearings + s.directions),
+    )
 }
 
 // 7 of rows and points.
@@ -155,13 +132,16 @@ pub fn check_domain(
     weights: &[f64],
     scales: &[f64],
     points: &[f64],
-) -> Verdict
+) -> Result<(), Refusal>
     requires shape_sound { ShapeSound s }
     requires domain_lengths { DomainLengths s rays.now weights.now scales.now points.now }
     ensures { result ≡ verdict (domain_tests (row_sections s rays.now weights.now scales.now
         points.now)) }
 {
-    refused_at(7, find_outside(s, rays, weights, scales, points))
+    refused_at(
+        Cause::Domain,
+        find_outside(s, rays, weights, scales, points),
+    )
 }
 
 // 7 of rows, points and the n cameras.
@@ -172,7 +152,7 @@ pub(crate) fn check_placed_domain(
     scales: &[f64],
     points: &[f64],
     cameras: &[f64],
-) -> Verdict
+) -> Result<(), Refusal>
     requires shape_sound { ShapeSound s }
     requires domain_lengths { DomainLengths s rays.now weights.now scales.now points.now }
     requires cameras_len { length cameras.now ≡ 3 * s.cameras }
@@ -180,7 +160,7 @@ pub(crate) fn check_placed_domain(
         ++ (section s.cameras (bad_vector cameras.now) ∷ []))) }
 {
     refused_at(
-        7,
+        Cause::Domain,
         find_placed_outside(s, rays, weights, scales, points, cameras),
     )
 }

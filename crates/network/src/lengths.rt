@@ -4,8 +4,8 @@ ghost use Rattle.network.specs.Network.{network, rows};
 ghost use Rattle.network.specs.Refusals.{verdict, ends_fit, rays_fit, vectors_fit, lists_fit, content_fits, network_fits, length_tests};
 ghost use Rattle.network.specs.inner.Sound.{ShapeSound};
 
-use crate::answers::{both, refused_if};
-use crate::{Shape, Verdict};
+use crate::answers::refused_if;
+use crate::{Cause, Refusal, Shape};
 
 // The ends and weights of the rows.
 pub fn ends_fit(s: Shape, ends: &[usize], weights: &[f64]) -> bool
@@ -13,7 +13,7 @@ pub fn ends_fit(s: Shape, ends: &[usize], weights: &[f64]) -> bool
     ensures { result ≡ ends_fit (rows s) ends.now weights.now }
 {
     let count = s.bearings + s.directions;
-    both(ends.len() == 2 * count, weights.len() == count)
+    (ends.len() == 2 * count) & (weights.len() == count)
 }
 
 // The rays and scales of the rows.
@@ -22,7 +22,7 @@ fn rays_fit(s: Shape, rays: &[f64], scales: &[f64]) -> bool
     ensures { result ≡ rays_fit (rows s) rays.now scales.now }
 {
     let count = s.bearings + s.directions;
-    both(rays.len() == 3 * count, scales.len() == count)
+    (rays.len() == 3 * count) & (scales.len() == count)
 }
 
 // n vectors.
@@ -38,7 +38,7 @@ fn lists_fit(s: Shape, offsets: &[usize], listed: &[usize]) -> bool
     requires { ShapeSound s }
     ensures { result ≡ lists_fit s.points s.bearings offsets.now listed.now }
 {
-    both(offsets.len() == s.points + 1, listed.len() == s.bearings)
+    (offsets.len() == s.points + 1) & (listed.len() == s.bearings)
 }
 
 // Every slice of a network but its point lists.
@@ -53,9 +53,7 @@ pub fn content_fits(
     requires { ShapeSound s }
     ensures { result ≡ content_fits s ends.now rays.now weights.now scales.now points.now }
 {
-    let ends_ok = ends_fit(s, ends, weights);
-    let rays_ok = rays_fit(s, rays, scales);
-    both(ends_ok, both(rays_ok, vectors_fit(s.points, points)))
+    ends_fit(s, ends, weights) & rays_fit(s, rays, scales) & vectors_fit(s.points, points)
 }
 
 // Every slice of a network.
@@ -73,15 +71,12 @@ pub fn network_fits(
     ensures { result ≡ network_fits (network s ends.now rays.now weights.now scales.now
         points.now offsets.now listed.now) }
 {
-    both(
-        content_fits(s, ends, rays, weights, scales, points),
-        lists_fit(s, offsets, listed),
-    )
+    content_fits(s, ends, rays, weights, scales, points) & lists_fit(s, offsets, listed)
 }
 
 // 3, where `fit` says that every slice which the call is lent has its length.
-pub fn check_lengths(fit: bool) -> Verdict
+pub fn check_lengths(fit: bool) -> Result<(), Refusal>
     ensures { result ≡ verdict (length_tests fit) }
 {
-    refused_if(3, !fit)
+    refused_if(Cause::Lengths, !fit)
 }

@@ -4,6 +4,7 @@
 pub mod answers;
 pub mod domain;
 pub mod ends;
+pub mod graph;
 pub mod lengths;
 pub mod links;
 mod lists;
@@ -11,11 +12,11 @@ pub mod route;
 
 ghost use Rattle.std.specs.Prelude.{◌≡◌, [], ◌∷◌, length, ◌+◌, ◌*◌};
 ghost use Rattle.network.specs.Network.{graph, network, rows};
-ghost use Rattle.network.specs.Refusals.{verdict, count_tests, end_tests, link_tests, graph_row_tests, network_row_tests, marks_after};
+ghost use Rattle.network.specs.Refusals.{number, verdict, count_tests, end_tests, link_tests, graph_row_tests, network_row_tests, marks_after};
 ghost use Rattle.network.specs.Refusals.{section, bad_vector};
 ghost use Rattle.network.specs.inner.Sound.{ShapeSound, NetworkLengths};
 
-use answers::{either, refused_if};
+use answers::refused_if;
 use domain::{check_domain, check_placed_domain, check_weights};
 use ends::check_ends;
 use lists::check_lists;
@@ -36,47 +37,85 @@ pub struct Span {
     pub size: usize,
 }
 
-// A refused call: document 01's number and place.
-#[derive(Clone, Copy)]
+// Why a call is refused, with the number that goes out. What the place counts stands behind it; without a word it is 0.
+#[derive(Clone, Copy, Debug, PartialEq, Eq)]
+pub enum Cause {
+    // n is 0 or over 4,096
+    Cameras = 1,
+    // m, B or E over its limit
+    Sizes = 2,
+    // a length differs from its count, or the work buffer is too short
+    Lengths = 3,
+    // a camera or point number out of range: row
+    OutOfRange = 4,
+    // a direction with source = target: row
+    Loop = 5,
+    // the point lists break their rule
+    PointLists = 6,
+    // a weight, scale, ray, direction or position outside the domain: row
+    Domain = 7,
+    // the route is not 1 to 3, or the dense limit over 256
+    Route = 8,
+    // iterative: diagonal + 1e-6 not finite: camera. (10, the same not above 0, cannot be met.)
+    Diagonal = 9,
+    // curvature not finite, or at most 2^-52 × size of old product: component
+    Curvature = 11,
+    // new product not finite, or old product at or below 0: component
+    Product = 12,
+    // final residual not finite or above the allowed: component
+    Residual = 13,
+    // route 1 and n - 1 over the dense limit: n - 1
+    Dimension = 14,
+    // dense: pivot not finite or not above 0: row
+    Pivot = 15,
+    // factor entry not finite: row
+    Factor = 16,
+    // back-substituted number not finite: row
+    Solution = 17,
+    // image under 36 bytes, version not 1 or section count not 4
+    Head = 20,
+    // offsets or lengths break the image rule: pair
+    Pairs = 21,
+    // a section's length differs from what the counts say: section
+    Section = 22,
+    // writer's output shorter than the image: bytes needed
+    Room = 23,
+}
+
+impl Cause {
+    pub fn number(self) -> usize
+        ensures { result ≡ number self }
+    {
+        self as usize
+    }
+}
+
+// A refused call.
+#[derive(Clone, Copy, Debug, PartialEq, Eq)]
 pub struct Refusal {
-    pub number: usize,
+    pub cause: Cause,
     pub place: usize,
 }
 
-#[derive(Clone, Copy)]
-pub enum Verdict {
-    Refused(Refusal),
-    Passed,
-}
-
 // 1 and 2.
-pub fn check_counts(s: Shape) -> Verdict
+pub fn check_counts(s: Shape) -> Result<(), Refusal>
     ensures { result ≡ verdict (count_tests s) }
 {
     let n = s.cameras;
-    let cameras = refused_if(1, either(n == 0, 4096 < n));
-    if let Verdict::Refused(r) = cameras {
-        return Verdict::Refused(r);
-    }
+    refused_if(Cause::Cameras, (n == 0) | (4096 < n))?;
     refused_if(
-        2,
-        either(
-            65536 < s.points,
-            either(262144 < s.bearings, 65536 < s.directions),
-        ),
+        Cause::Sizes,
+        (65536 < s.points) | (262144 < s.bearings) | (65536 < s.directions),
     )
 }
 
 // 4, 5 and the weight part of 7.
-pub fn check_graph_rows(s: Shape, ends: &[usize], weights: &[f64]) -> Verdict
+pub fn check_graph_rows(s: Shape, ends: &[usize], weights: &[f64]) -> Result<(), Refusal>
     requires shape_sound { ShapeSound s }
     requires ends_len { (length ends.now ≡ 2 * rows s) × (length weights.now ≡ rows s) }
     ensures { result ≡ verdict (graph_row_tests (graph s ends.now weights.now)) }
 {
-    let stray = check_ends(s, ends);
-    if let Verdict::Refused(r) = stray {
-        return Verdict::Refused(r);
-    }
+    check_ends(s, ends)?;
     check_weights(s, weights)
 }
 
@@ -87,7 +126,7 @@ pub fn check_links(
     offsets: &[usize],
     listed: &[usize],
     marks: &mut [usize],
-) -> Verdict
+) -> Result<(), Refusal>
     requires shape_sound { ShapeSound s }
     requires ends_len { length ends.now ≡ 2 * rows s }
     requires offsets_len { length offsets.now ≡ s.points + 1 }
@@ -95,10 +134,7 @@ pub fn check_links(
     ensures value { result ≡ verdict (link_tests s ends.now offsets.now listed.now) }
     ensures marks_after { marks.new ≡ marks_after (verdict (end_tests s ends.now)) s.bearings marks.old }
 {
-    let range = check_ends(s, ends);
-    if let Verdict::Refused(r) = range {
-        return Verdict::Refused(r);
-    }
+    check_ends(s, ends)?; // before a mark is touched
     check_lists(s, ends, offsets, listed, marks)
 }
 
@@ -113,7 +149,7 @@ pub fn check_network_rows(
     offsets: &[usize],
     listed: &[usize],
     marks: &mut [usize],
-) -> Verdict
+) -> Result<(), Refusal>
     requires shape_sound { ShapeSound s }
     requires network_lengths { NetworkLengths (network s ends.now rays.now weights.now scales.now points.now offsets.now listed.now) }
     requires marks_len { length marks.old ≡ s.bearings }
@@ -123,10 +159,7 @@ pub fn check_network_rows(
         []) }
     ensures marks_after { marks.new ≡ marks_after (verdict (end_tests s ends.now)) s.bearings marks.old }
 {
-    let links = check_links(s, ends, offsets, listed, marks);
-    if let Verdict::Refused(r) = links {
-        return Verdict::Refused(r);
-    }
+    check_links(s, ends, offsets, listed, marks)?;
     check_domain(s, rays, weights, scales, points)
 }
 
@@ -142,7 +175,7 @@ pub fn check_placed_rows(
     listed: &[usize],
     marks: &mut [usize],
     cameras: &[f64],
-) -> Verdict
+) -> Result<(), Refusal>
     requires shape_sound { ShapeSound s }
     requires network_lengths { NetworkLengths (network s ends.now rays.now weights.now scales.now points.now offsets.now listed.now) }
     requires marks_len { (length marks.old ≡ s.bearings) × (length cameras.now ≡ 3 * s.cameras) }
@@ -152,9 +185,6 @@ pub fn check_placed_rows(
         (section s.cameras (bad_vector cameras.now) ∷ [])) }
     ensures marks_after { marks.new ≡ marks_after (verdict (end_tests s ends.now)) s.bearings marks.old }
 {
-    let links = check_links(s, ends, offsets, listed, marks);
-    if let Verdict::Refused(r) = links {
-        return Verdict::Refused(r);
-    }
+    check_links(s, ends, offsets, listed, marks)?;
     check_placed_domain(s, rays, weights, scales, points, cameras)
 }

@@ -1,9 +1,10 @@
 // What the rows tie together, read with its range.
-ghost use Rattle.std.specs.Prelude.{◌≡◌, ◌+◌, ◌<◌, ◌≤◌, get_or};
-ghost use Rattle.network.specs.Network.{first_end, second_end, span_of, rows};
-ghost use Rattle.network.specs.inner.Sound.{EndsSound, ListedSound, OffsetsSound};
+ghost use Rattle.std.specs.Prelude.{◌≡◌, ◌+◌, ◌*◌, ◌<◌, ◌≤◌, get_or};
+ghost use Rattle.network.specs.Network.{first_end, second_end, span_of, rows, row_ends, links as links_of};
+ghost use Rattle.network.specs.inner.Sound.{ShapeSound, EndsSound, ListedSound, OffsetsSound, LinksSound};
 
 use crate::{Shape, Span};
+use std::marker::Model;
 
 // The camera of a bearing, the source of a direction.
 pub fn camera_of(s: Shape, ends: &[usize], r: usize) -> usize
@@ -52,4 +53,139 @@ pub fn listed_at(s: Shape, listed: &[usize], k: usize) -> usize
     ensures { (result ≡ get_or listed.now k 0) × (result < s.bearings) }
 {
     listed[k]
+}
+
+// ---- what the tests of a call have shown, as types: a value stands for slices that passed them
+
+// The ends of the rows: 1, 2, 4 and 5.
+#[derive(Drop)]
+pub struct Ends<'a> {
+    shape: Shape,
+    ends: &'a [usize],
+}
+
+impl<'a> Model for Ends<'a> {
+    ghost use Rattle.network.specs.Network.{RowEnds, row_ends};
+    ghost use Rattle.network.specs.inner.Sound.{EndsSound};
+
+    ghost Value = { RowEnds };
+
+    ghost view = { λ e. row_ends e.shape e.ends.now };
+
+    ghost invariant = { λ e. EndsSound e.shape e.ends.now };
+}
+
+impl<'a> Ends<'a> {
+    pub fn new(shape: Shape, ends: &'a [usize]) -> Ends<'a>
+        requires { EndsSound shape ends.now }
+        ensures { result ≡ row_ends shape ends.now }
+    {
+        Ends { shape, ends }
+    }
+
+    pub fn shape(&self) -> Shape
+        ensures value { result ≡ self.now.shape }
+        ensures sound { ShapeSound result }
+    {
+        self.shape
+    }
+
+    // The camera of a bearing, the source of a direction.
+    pub fn camera(&self, row: usize) -> usize
+        requires { row < rows self.now.shape }
+        ensures { (result ≡ first_end self.now.ends row) × (result < self.now.shape.cameras) }
+    {
+        let ends = self.ends;
+        ends[2 * row]
+    }
+
+    // The point of a bearing.
+    pub fn point(&self, bearing: usize) -> usize
+        requires { bearing < self.now.shape.bearings }
+        ensures { (result ≡ second_end self.now.ends bearing) × (result < self.now.shape.points) }
+    {
+        let ends = self.ends;
+        ends[2 * bearing + 1]
+    }
+
+    // The target of a direction.
+    pub fn target(&self, direction: usize) -> usize
+        requires { (self.now.shape.bearings ≤ direction) × (direction < rows self.now.shape) }
+        ensures { (result ≡ second_end self.now.ends direction) × (result < self.now.shape.cameras) }
+    {
+        let ends = self.ends;
+        ends[2 * direction + 1]
+    }
+}
+
+// The ends of the rows and the point lists: 1, 2 and 4 to 6.
+#[derive(Drop)]
+pub struct Links<'a> {
+    ends: Ends<'a>,
+    offsets: &'a [usize],
+    listed: &'a [usize],
+}
+
+impl<'a> Model for Links<'a> {
+    ghost use Rattle.network.specs.Network.{Links, links};
+    ghost use Rattle.network.specs.inner.Sound.{LinksSound};
+
+    ghost Value = { Links };
+
+    ghost view = { λ l. links l.ends.shape l.ends.ends l.offsets.now l.listed.now };
+
+    ghost invariant = { λ l. LinksSound (links l.ends.shape l.ends.ends l.offsets.now l.listed.now) };
+}
+
+impl<'a> Links<'a> {
+    pub fn new(
+        shape: Shape,
+        ends: &'a [usize],
+        offsets: &'a [usize],
+        listed: &'a [usize],
+    ) -> Links<'a>
+        requires { LinksSound (links_of shape ends.now offsets.now listed.now) }
+        ensures { result ≡ links_of shape ends.now offsets.now listed.now }
+    {
+        Links {
+            ends: Ends::new(shape, ends),
+            offsets,
+            listed,
+        }
+    }
+
+    pub fn shape(&self) -> Shape
+        ensures value { result ≡ self.now.shape }
+        ensures sound { ShapeSound result }
+    {
+        self.ends.shape()
+    }
+
+    pub fn ends(&self) -> &Ends<'a>
+        ensures { result.now ≡ row_ends self.now.shape self.now.ends }
+    {
+        &self.ends
+    }
+
+    // The places of the lists that a point has: the Rust's `point_bearing_range`.
+    pub fn span(&self, point: usize) -> Span
+        requires { point < self.now.shape.points }
+        ensures { (result ≡ span_of self.now.offsets point) × (result.first + result.size ≤ self.now.shape.bearings) }
+    {
+        let offsets = self.offsets;
+        let first = offsets[point];
+        Span {
+            first,
+            size: offsets[point + 1] - first,
+        }
+    }
+
+    // The bearing at a place of the lists.
+    pub fn listed(&self, place: usize) -> usize
+        requires { place < self.now.shape.bearings }
+        ensures { (result ≡ get_or self.now.listed place 0) × (result < self.now.shape.bearings) }
+    {
+        let listed = self.listed;
+        listed[place]
+    }
 }

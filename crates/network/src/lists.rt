@@ -7,31 +7,24 @@ ghost use Rattle.network.specs.Refusals.{verdict, list_tests};
 ghost use Rattle.network.specs.inner.Marks.{Marked, has_unfit, unfit};
 ghost use Rattle.network.specs.inner.Sound.{OffsetsSound};
 
-use crate::answers::{both, is_nowhere, refused_if};
-use crate::{Shape, Verdict};
-use field::{Place, clear_numbers};
+use crate::answers::refused_if;
+use crate::{Cause, Refusal, Shape};
+use field::clear;
 
 // The lowest of m points whose list ends before it starts.
-fn find_fall(offsets: &[usize], m: usize) -> Place
+fn find_fall(offsets: &[usize], m: usize) -> Option<usize>
     requires { length offsets.now ≡ m + 1 }
     ensures { result ≡ lowest (falls offsets.now) m }
 {
-    let mut p = 0usize;
-    while p < m {
-        if offsets[p + 1] < offsets[p] {
-            return Place::At(p);
-        }
-        p += 1;
-    }
-    Place::Nowhere
+    (0..m).find(|&p| offsets[p + 1] < offsets[p])
 }
 
 fn offsets_rise(m: usize, b: usize, offsets: &[usize]) -> bool
     requires { length offsets.now ≡ m + 1 }
     ensures { result ≡ offsets_rise m b offsets.now }
 {
-    let rise = is_nowhere(find_fall(offsets, m));
-    both(offsets[0] == 0, both(offsets[m] == b, rise))
+    let rise = find_fall(offsets, m).is_none();
+    (offsets[0] == 0) & (offsets[m] == b) & rise
 }
 
 // Marks the row at place k of the lists, which is under point p: whether it is a bearing of p's that was not marked before.
@@ -79,12 +72,10 @@ fn mark_list(
     ensures value { result ≡ none (λ i. unfit b ends.now listed.now p (start + i)) size }
     ensures marked_after { Marked b listed.now result (start + size) marks.new }
 {
-    let mut i = 0usize;
-    while i < size {
+    for i in 0..size {
         if !mark_row(b, ends, listed, p, start + i, marks) {
             return false;
         }
-        i += 1;
     }
     true
 }
@@ -127,12 +118,10 @@ fn mark_points(
     ensures value { result ≡ none (has_unfit b ends.now offsets.now listed.now) m }
     ensures marks_len { length marks.new ≡ b }
 {
-    let mut p = 0usize;
-    while p < m {
+    for p in 0..m {
         if !mark_point(b, ends, offsets, listed, p, marks) {
             return false;
         }
-        p += 1;
     }
     true
 }
@@ -155,7 +144,7 @@ fn lists_hold(
     if !offsets_rise(m, b, offsets) {
         return false;
     }
-    clear_numbers(marks, b);
+    clear(marks, b, 0);
     mark_points(m, b, ends, offsets, listed, marks)
 }
 
@@ -166,7 +155,7 @@ pub(crate) fn check_lists(
     offsets: &[usize],
     listed: &[usize],
     marks: &mut [usize],
-) -> Verdict
+) -> Result<(), Refusal>
     requires ends_len { length ends.now ≡ 2 * rows s }
     requires offsets_len { length offsets.now ≡ s.points + 1 }
     requires listed_len { (length listed.now ≡ s.bearings) × (length marks.old ≡ s.bearings) }
@@ -174,6 +163,6 @@ pub(crate) fn check_lists(
     ensures marks_after { marks.new ≡ replicate s.bearings 0 }
 {
     let hold = lists_hold(s.points, s.bearings, ends, offsets, listed, marks);
-    clear_numbers(marks, s.bearings);
-    refused_if(6, !hold)
+    clear(marks, s.bearings, 0);
+    refused_if(Cause::PointLists, !hold)
 }

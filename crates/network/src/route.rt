@@ -2,19 +2,19 @@
 ghost use Rattle.std.specs.Prelude.{◌≡◌, ◌≤◌};
 ghost use Rattle.network.specs.Refusals.{verdict, bad_route, dense_rows, route_tests};
 
-use crate::Verdict;
-use crate::answers::{choose, either, refused_if};
+use crate::answers::refused_if;
+use crate::{Cause, Refusal};
 
 fn bad_route(route: usize, limit: usize) -> bool
     ensures { result ≡ bad_route route limit }
 {
-    either(route < 1, either(3 < route, 256 < limit))
+    (route < 1) | (3 < route) | (256 < limit)
 }
 
-pub fn check_route(route: usize, limit: usize) -> Verdict
+pub fn check_route(route: usize, limit: usize) -> Result<(), Refusal>
     ensures { result ≡ verdict (route_tests route limit) }
 {
-    refused_if(8, bad_route(route, limit))
+    refused_if(Cause::Route, bad_route(route, limit))
 }
 
 // The rows of the dense system, 0 where the route may not go dense within the limit.
@@ -22,6 +22,9 @@ pub fn dense_rows(n: usize, route: usize, limit: usize) -> usize
     requires { 1 ≤ n }
     ensures { (result ≡ dense_rows n route limit) × (result ≤ 256) }
 {
-    let never = either(route == 2, limit < n - 1);
-    choose(either(bad_route(route, limit), never), 0, n - 1)
+    if bad_route(route, limit) | (route == 2) | (limit < n - 1) {
+        0
+    } else {
+        n - 1
+    }
 }

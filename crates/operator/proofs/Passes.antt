@@ -16,7 +16,7 @@ use Rattle.field.specs.Buffer.{get, load, put, store, vector}
 use Rattle.field.specs.Count.{upto}
 use Rattle.field.specs.Vec.{minus, origin, over, plus, scale, at}
 use Rattle.field.specs.declared.Vec3.{Vec3}
-use Rattle.network.specs.Network.{first_end, rows, second_end, Links, links, row_at, span_of}
+use Rattle.network.specs.Network.{first_end, second_end, Links, row_at, span_of}
 use Rattle.network.specs.declared.Shape.{Shape}
 use Rattle.system.specs.System.{tiny}
 use Rattle.system.specs.Work.{weights_at}
@@ -25,7 +25,6 @@ use Rattle.operator.proofs.Buffered.{weights-kept}
 use Rattle.operator.specs.Operator.{Change, bearing_step, changed, direction_step, list_step, mean_step, point_step, reduced_by, ridge_at, ridge_entry, ridged, span_pass, times}
 use Rattle.operator.specs.inner.Applied.{FieldsIn, applied}
 use Rattle.network.specs.declared.Span.{Span}
-use Rattle.network.specs.inner.Sound.{EndsSound}
 use Rattle.system.specs.inner.Formed.{weights_in}
 
 -- ---- the ridge
@@ -88,56 +87,54 @@ module _ (s : Shape) (from into : ℕ) (l : List Float) (O : FieldsIn s from int
       w ≡ applied s from into (times f (i + 1)) l
   more f h i m w e g = rw (add-one, times-suc) (both (times f i) (f i) m w (sized-times s.cameras f h i) (h i) e g)
 
--- ---- the rows
+-- ---- the rows, where z is the shape as it was read
 
-module _ (s : Shape) (ends : List ℕ) (E : EndsSound s ends) (a from into : ℕ) (l : List Float) where
+module _ (s z : Shape) (ez : z ≡ s) (ends : List ℕ) (a from into : ℕ) (l : List Float) where
   -- what a bearing does to its camera
   pub bearing-done : (r c : ℕ) (e : Float) (u x d v : Vec3) (w : List Float) →
-      r < rows s →
-      c ≡ first_end ends r →
+      (c ≡ first_end ends r) × (c < s.cameras) →
       x ≡ get vector l (from + 3 * c) →
       d ≡ minus x u →
-      e ≡ (weights_in s l).row r →
+      e ≡ (weights_in z l).row r →
       v ≡ scale d e →
-      w ≡ store vector l into (changed plus a c v (load vector l into s.cameras)) →
+      w ≡ store vector l into (changed plus a c v (load vector l into z.cameras)) →
       w ≡ applied s from into (bearing_step ends a u r) l
   unfolding applied bearing_step
-  bearing-done r c e u x d v w h ec ex ed ee ev f =
-      let k : get_or (load vector l from s.cameras) (first_end ends r) origin ≡ x = at_load vector l from s.cameras _ origin (E.camera r h) ∙ rw (← ec, ← ex) in
-      rw (k, ← ee, ← ed, ← ev, ← ec) f
+  bearing-done r c e u x d v w (ec, h) ex ed ee ev f =
+      let k : get_or (load vector l from z.cameras) (first_end ends r) origin ≡ x = at_load vector l from z.cameras _ origin (rw (← ez, ec) at h) ∙ rw (← ec, ← ex) in
+      rw (← ez, k, ← ee, ← ed, ← ev, ← ec) f
 
   -- what a direction does to its source and its target
-  pub direction-done : (d i j : ℕ) (v : Vec3) (m w : List Float) → let r = s.bearings + d in
+  pub direction-done : (d i j : ℕ) (v : Vec3) (m w : List Float) → let r = z.bearings + d in
       FieldsIn s from into (length l) →
-      d < s.directions →
-      i ≡ first_end ends r →
-      j ≡ second_end ends r →
-      v ≡ scale (minus (get vector l (from + 3 * j)) (get vector l (from + 3 * i))) ((weights_in s l).row r) →
-      m ≡ store vector l into (changed minus a i v (load vector l into s.cameras)) →
-      w ≡ store vector m into (changed plus a j v (load vector m into s.cameras)) →
+      (i ≡ first_end ends r) × (i < s.cameras) →
+      (j ≡ second_end ends r) × (j < s.cameras) →
+      v ≡ scale (minus (get vector l (from + 3 * j)) (get vector l (from + 3 * i))) ((weights_in z l).row r) →
+      m ≡ store vector l into (changed minus a i v (load vector l into z.cameras)) →
+      w ≡ store vector m into (changed plus a j v (load vector m into z.cameras)) →
       w ≡ applied s from into (direction_step s.bearings ends a d) l
   unfolding applied direction_step
-  direction-done d i j v m w O h ei ej ev f g =
-      let n = s.cameras in
-      let r = s.bearings + d in
-      let b : r < rows s = omega arith in
-      let ki : get_or (load vector l from n) (first_end ends r) origin ≡ get vector l (from + 3 * i) = at_load vector l from n _ origin (E.camera r b) ∙ rw (← ei) in
-      let kj : get_or (load vector l from n) (second_end ends r) origin ≡ get vector l (from + 3 * j) = at_load vector l from n _ origin (E.target r (omega arith) b) ∙ rw (← ej) in
-      let z = changed minus a i v (load vector l into n) in
-      let size : length z ≡ n = changed-length minus a i v (load vector l into n) ∙ length-load vector l into n in
-      rw (ki, kj, ← ev, ← ei, ← ej)
+  direction-done d i j v m w O (ei, bi) (ej, bj) ev f g =
+      let n = z.cameras in
+      let r = z.bearings + d in
+      let P = rw (← ez) at O in
+      let ki : get_or (load vector l from n) (first_end ends r) origin ≡ get vector l (from + 3 * i) = at_load vector l from n _ origin (rw (← ez, ei) at bi) ∙ rw (← ei) in
+      let kj : get_or (load vector l from n) (second_end ends r) origin ≡ get vector l (from + 3 * j) = at_load vector l from n _ origin (rw (← ez, ej) at bj) ∙ rw (← ej) in
+      let y = changed minus a i v (load vector l into n) in
+      let size : length y ≡ n = changed-length minus a i v (load vector l into n) ∙ length-load vector l into n in
+      rw (← ez, ki, kj, ← ev, ← ei, ← ej)
       (g
-      ∙ through vector vector vector-lawful (λ t k. changed plus a j v k) l m from n into n z f size (inr (omega (arith, O.ordered.apart))) (omega (arith, O.ordered.last, O.ordered.room))
-      (changed-length plus a j v z ∙ size))
+      ∙ through vector vector vector-lawful (λ t k. changed plus a j v k) l m from n into n y f size (inr (omega (arith, P.ordered.apart))) (omega (arith, P.ordered.last, P.ordered.room))
+      (changed-length plus a j v y ∙ size))
 
 -- ---- points
 
 -- what is read of a bearing for its point's sum
-pub weighted-is : (s : Shape) (ends : List ℕ) (from : ℕ) (l : List Float) (r c : ℕ) (e : Float) (x v : Vec3) → EndsSound s ends → r < s.bearings →
-    c ≡ first_end ends r → x ≡ get vector l (from + 3 * c) → e ≡ (weights_in s l).row r → v ≡ scale x e →
+pub weighted-is : (s : Shape) (ends : List ℕ) (from : ℕ) (l : List Float) (r c : ℕ) (e : Float) (x v : Vec3) →
+    (c ≡ first_end ends r) × (c < s.cameras) → x ≡ get vector l (from + 3 * c) → e ≡ (weights_in s l).row r → v ≡ scale x e →
     v ≡ scale (at (load vector l from s.cameras) (first_end ends r)) ((weights_in s l).row r)
-weighted-is s ends from l r c e x v E h ec ex ee ev =
-    let q : at (load vector l from s.cameras) (first_end ends r) ≡ x = at_load vector l from s.cameras _ origin (E.camera r (omega arith)) ∙ rw (← ec, ← ex) in
+weighted-is s ends from l r c e x v (ec, h) ex ee ev =
+    let q : at (load vector l from s.cameras) (first_end ends r) ≡ x = at_load vector l from s.cameras _ origin (rw ec at h) ∙ rw (← ec, ← ex) in
     rw (q, ← ee) ev
 
 -- (target - source) × its effective weight
@@ -156,9 +153,6 @@ module _ (s : Shape) (ends listed : List ℕ) (from : ℕ) (l : List Float) (k :
       t' ≡ sum_of (i + 1)
   sum_more i r t t' v er ev et g = rw (add-one, upto-suc, ← et, ← er, ← ev) g
 
-  pub sum-ended : (i : ℕ) (t : Vec3) → t ≡ sum_of i → k.size ≤ i → i ≤ k.size → t ≡ sum_of k.size
-  sum-ended i t e a b = let q : i ≡ k.size = omega arith in rw q at e
-
 -- the bearings of a point with the mean of its cameras, which is their sum over the point's weight
 pub mean-taken : (s : Shape) (ends listed : List ℕ) (from into a : ℕ) (l m : List Float) (p : Span) (v u : Vec3) (t : Float) →
     v ≡ upto (mean_step ends listed p (weights_in s l) (load vector l from s.cameras)) p.size origin →
@@ -175,20 +169,17 @@ pub rows_are : (s : Shape) (ends listed : List ℕ) (from into a : ℕ) (l w : L
 rows_are s ends listed from into a l w p t i e f = f ∙ ap (λ k. applied s from into (span_pass ends listed a (record { first = p.first; size = k }) t) l) (sym e)
 
 -- point p: skipped, or with the mean of its cameras
-module _ (s : Shape) (ends offsets listed : List ℕ) (from into a p : ℕ) (l : List Float) (t : Float) (et : t ≡ (weights_in s l).point p) where
-  pub point-skipped : FieldsIn s from into (length l) → lt t tiny ≡ true → l ≡ applied s from into (point_step (links s ends offsets listed) a p) l
+module _ (L : Links) (from into a p : ℕ) (l : List Float) (t : Float) (et : t ≡ (weights_in L.shape l).point p) where
+  pub point-skipped : FieldsIn L.shape from into (length l) → lt t tiny ≡ true → l ≡ applied L.shape from into (point_step L a p) l
   unfolding applied point_step
-  point-skipped O b = rw (← et, b) (sym (store-load vector vector-lawful l into _ (fits s from into l O)))
+  point-skipped O b = rw (← et, b) (sym (store-load vector vector-lawful l into _ (fits L.shape from into l O)))
 
-  pub point-met : (q : Span) (w : List Float) → q ≡ span_of offsets p → lt t tiny ≡ false → w ≡ applied s from into (span_pass ends listed a q t) l →
-      w ≡ applied s from into (point_step (links s ends offsets listed) a p) l
+  pub point-met : (q : Span) (w : List Float) → q ≡ span_of L.offsets p → lt t tiny ≡ false → w ≡ applied L.shape from into (span_pass L.ends L.listed a q t) l →
+      w ≡ applied L.shape from into (point_step L a p) l
   unfolding applied point_step
   point-met q w e b g = rw (← et, b, ← e) g
 
--- ---- the loops: where each begins, one turn more, where it ends
-
-pub ended : (s : Shape) (from into : ℕ) (l w : List Float) (f : ℕ → Change) (k n : ℕ) → w ≡ applied s from into (times f k) l → n ≤ k → k ≤ n → w ≡ applied s from into (times f n) l
-ended s from into l w f k n e a b = let q : k ≡ n = omega arith in rw q at e
+-- ---- the loops, one turn more
 
 module _ (s : Shape) (from into : ℕ) (l : List Float) (O : FieldsIn s from into (length l)) (i : ℕ) (m w : List Float) where
   pub list-more : (ends listed : List ℕ) (k : Span) (a : ℕ) (u : Vec3) (r : ℕ) → r ≡ row_at listed k i → m ≡ applied s from into (times (list_step ends listed k a u) i) l →

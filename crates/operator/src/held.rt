@@ -5,8 +5,9 @@ ghost use Rattle.network.specs.Network.{links};
 ghost use Rattle.network.specs.inner.Sound.{LinksSound};
 ghost use Rattle.operator.specs.inner.Applied.{FieldsIn, reduced_in};
 
-use crate::apply_core;
+use crate::{Fields, apply_core};
 use network::Shape;
+use network::links::Links;
 
 #[derive(Drop)]
 pub struct ReducedOperator<'a> {
@@ -29,7 +30,8 @@ impl<'a> ReducedOperator<'a> {
         ensures { self.exit.0.now ≡ reduced_in
             (links s ends.now offsets.now listed.now) anchor from into self.entry.work.now }
     {
-        apply_core(self.work, s, ends, offsets, listed, anchor, from, into)
+        let links = Links::new(s, ends, offsets, listed);
+        apply_core(self.work, &links, Fields { anchor, from, into })
     }
 }
 

@@ -8,40 +8,45 @@ ghost use Rattle.std.specs.Prelude.{◌≡◌, ◌+◌, ◌*◌, ◌<◌, ◌≤
 ghost use Rattle.field.specs.Vec.{at, origin, plus, minus, scale};
 ghost use Rattle.field.specs.Count.{upto};
 ghost use Rattle.field.specs.Buffer.{get, put, load, store, vector};
-ghost use Rattle.network.specs.Network.{links, first_end, rows};
-ghost use Rattle.network.specs.inner.Sound.{ShapeSound, EndsSound, ListedSound, LinksSound};
+ghost use Rattle.network.specs.Network.{first_end, rows};
+ghost use Rattle.network.specs.inner.Sound.{ShapeSound};
 ghost use Rattle.system.specs.Work.{matrix_at, weights_at};
 ghost use Rattle.system.specs.inner.Formed.{weights_in};
 ghost use Rattle.operator.specs.Operator.{changed, ridge_at, ridged, times, mean_step, bearing_step, list_step, span_pass, point_step, direction_step};
 ghost use Rattle.operator.specs.inner.Applied.{PlacesIn, Ordered, FieldsIn, applied, reduced_in};
 
 use field::{Vec3, anchored, gain3, get3, put3, zero};
-use network::links::{camera_of, listed_at, span_of, target_of};
+use network::links::{Ends, Links};
 use network::{Shape, Span};
 use short::{four_rows, three_rows, two_rows};
 use system::reads::{point_weight, row_weight};
 
+// The anchor, and where two fields of the cameras stand in the work buffer: the one that is read, and the one that changes.
+#[derive(Clone, Copy)]
+pub(crate) struct Fields {
+    anchor: usize,
+    from: usize,
+    into: usize,
+}
+
 // Camera i × 1e-6, and zero at the anchor.
-fn ridge_at(work: &mut [f64], anchor: usize, from: usize, into: usize, i: usize)
-    requires { (i < 4096) × (from + 3 * i + 3 ≤ length work.old) × (into + 3 * i + 3 ≤ length work.old) }
-    ensures { work.new ≡ put vector work.old (into + 3 * i)
-        (ridge_at anchor i (get vector work.old (from + 3 * i))) }
+fn ridge_at(work: &mut [f64], f: Fields, i: usize)
+    requires { (i < 4096) × (f.from + 3 * i + 3 ≤ length work.old) × (f.into + 3 * i + 3 ≤ length work.old) }
+    ensures { work.new ≡ put vector work.old (f.into + 3 * i)
+        (ridge_at f.anchor i (get vector work.old (f.from + 3 * i))) }
 {
-    let v = anchored(i, anchor, zero(), get3(work, from + 3 * i).mul(1e-6));
-    put3(work, into + 3 * i, v);
+    let v = anchored(i, f.anchor, zero(), get3(work, f.from + 3 * i).mul(1e-6));
+    put3(work, f.into + 3 * i, v);
 }
 
 // The cameras × 1e-6, and zero at the anchor.
-fn ridge_pass(s: Shape, work: &mut [f64], anchor: usize, from: usize, into: usize)
-    requires { Ordered s from into (length work.old) }
-    ensures { work.new ≡ store vector work.old into
-        (ridged s.cameras anchor (load vector work.old from s.cameras)) }
+fn ridge_pass(s: Shape, work: &mut [f64], f: Fields)
+    requires { Ordered s f.from f.into (length work.old) }
+    ensures { work.new ≡ store vector work.old f.into
+        (ridged s.cameras f.anchor (load vector work.old f.from s.cameras)) }
 {
-    let n = s.cameras;
-    let mut i = 0usize;
-    while i < n {
-        ridge_at(work, anchor, from, into, i);
-        i += 1;
+    for i in 0..s.cameras {
+        ridge_at(work, f, i);
     }
 }
 
@@ -67,192 +72,105 @@ fn lose(work: &mut [f64], n: usize, anchor: usize, into: usize, c: usize, v: Vec
 }
 
 // The camera of bearing r gains (camera - u) × its effective weight.
-fn bearing_step(
-    s: Shape,
-    ends: &[usize],
-    work: &mut [f64],
-    anchor: usize,
-    from: usize,
-    into: usize,
-    r: usize,
-    u: Vec3,
-)
-    requires ends_sound { EndsSound s ends.now }
-    requires fields_in { FieldsIn s from into (length work.old) }
-    requires r_bound { r < rows s }
-    ensures { work.new ≡ applied s from into (bearing_step ends.now anchor u r) work.old }
+fn bearing_step(e: &Ends<'_>, work: &mut [f64], f: Fields, r: usize, u: Vec3)
+    requires fields_in { FieldsIn e.now.shape f.from f.into (length work.old) }
+    requires r_bound { r < rows e.now.shape }
+    ensures { work.new ≡ applied e.now.shape f.from f.into (bearing_step e.now.ends f.anchor u r) work.old }
 {
-    let c = camera_of(s, ends, r);
-    let x = get3(work, from + 3 * c);
+    let s = e.shape();
+    let c = e.camera(r);
+    let x = get3(work, f.from + 3 * c);
     let v = x.sub(u).mul(row_weight(s, work, r));
-    gain(work, s.cameras, anchor, into, c, v);
+    gain(work, s.cameras, f.anchor, f.into, c, v);
 }
 
 // Camera × effective weight of bearing r.
-fn weighted(s: Shape, ends: &[usize], work: &[f64], from: usize, r: usize) -> Vec3
-    requires ends_sound { EndsSound s ends.now }
-    requires r_lt_bearings { (r < s.bearings) × (from + 3 * s.cameras ≤ weights_at s) × (matrix_at s ≤ length work.now) }
-    ensures { result ≡ scale (at (load vector work.now from s.cameras) (first_end ends.now r))
-        ((weights_in s work.now).row r) }
+fn weighted(e: &Ends<'_>, work: &[f64], from: usize, r: usize) -> Vec3
+    requires { (r < e.now.shape.bearings) × (from + 3 * e.now.shape.cameras ≤ weights_at e.now.shape) × (matrix_at e.now.shape ≤ length work.now) }
+    ensures { result ≡ scale (at (load vector work.now from e.now.shape.cameras) (first_end e.now.ends r))
+        ((weights_in e.now.shape work.now).row r) }
 {
-    let c = camera_of(s, ends, r);
-    get3(work, from + 3 * c).mul(row_weight(s, work, r))
+    let c = e.camera(r);
+    get3(work, from + 3 * c).mul(row_weight(e.shape(), work, r))
 }
 
 // The sum of the cameras that see a point, by effective weight.
-fn point_sum(s: Shape, ends: &[usize], listed: &[usize], work: &[f64], from: usize, k: Span) -> Vec3
-    requires ends_sound { EndsSound s ends.now }
-    requires listed_sound { ListedSound s.bearings listed.now }
-    requires places_in { PlacesIn s from k.first k.size (length work.now) }
-    ensures { result ≡ upto (mean_step ends.now listed.now k (weights_in s work.now)
-        (load vector work.now from s.cameras)) k.size origin }
+fn point_sum(links: &Links<'_>, work: &[f64], from: usize, k: Span) -> Vec3
+    requires { PlacesIn links.now.shape from k.first k.size (length work.now) }
+    ensures { result ≡ upto (mean_step links.now.ends links.now.listed k (weights_in links.now.shape work.now)
+        (load vector work.now from links.now.shape.cameras)) k.size origin }
 {
-    let first = k.first;
-    let size = k.size;
+    let e = links.ends();
     let mut sum = zero();
-    let mut i = 0usize;
-    while i < size {
-        let r = listed_at(s, listed, first + i);
-        sum = sum.add(weighted(s, ends, work, from, r));
-        i += 1;
+    for i in 0..k.size {
+        let r = links.listed(k.first + i);
+        sum = sum.add(weighted(e, work, from, r));
     }
     sum
 }
 
 // The bearings of a point whose cameras have the mean u.
-fn point_gain(
-    s: Shape,
-    ends: &[usize],
-    listed: &[usize],
-    work: &mut [f64],
-    anchor: usize,
-    from: usize,
-    into: usize,
-    k: Span,
-    u: Vec3,
-)
-    requires ends_sound { EndsSound s ends.now }
-    requires listed_sound { ListedSound s.bearings listed.now }
-    requires fields_in { FieldsIn s from into (length work.old) }
-    requires size_bound { k.first + k.size ≤ s.bearings }
-    ensures { work.new ≡ applied s from into (times (list_step ends.now listed.now k anchor u) k.size)
-        work.old }
+fn point_gain(links: &Links<'_>, work: &mut [f64], f: Fields, k: Span, u: Vec3)
+    requires fields_in { FieldsIn links.now.shape f.from f.into (length work.old) }
+    requires size_bound { k.first + k.size ≤ links.now.shape.bearings }
+    ensures { work.new ≡ applied links.now.shape f.from f.into
+        (times (list_step links.now.ends links.now.listed k f.anchor u) k.size) work.old }
 {
-    let first = k.first;
-    let size = k.size;
-    let mut i = 0usize;
-    while i < size {
-        let r = listed_at(s, listed, first + i);
-        bearing_step(s, ends, work, anchor, from, into, r, u);
-        i += 1;
+    let e = links.ends();
+    for i in 0..k.size {
+        let r = links.listed(k.first + i);
+        bearing_step(e, work, f, r, u);
     }
 }
 
 // A point of weight t: the mean of its cameras, then bearing by bearing.
-fn long_step(
-    s: Shape,
-    ends: &[usize],
-    listed: &[usize],
-    work: &mut [f64],
-    anchor: usize,
-    from: usize,
-    into: usize,
-    k: Span,
-    t: f64,
-)
-    requires ends_sound { EndsSound s ends.now }
-    requires listed_sound { ListedSound s.bearings listed.now }
-    requires fields_in { FieldsIn s from into (length work.old) }
-    requires size_bound { k.first + k.size ≤ s.bearings }
-    ensures { work.new ≡ applied s from into (span_pass ends.now listed.now anchor k t) work.old }
+fn long_step(links: &Links<'_>, work: &mut [f64], f: Fields, k: Span, t: f64)
+    requires fields_in { FieldsIn links.now.shape f.from f.into (length work.old) }
+    requires size_bound { k.first + k.size ≤ links.now.shape.bearings }
+    ensures { work.new ≡ applied links.now.shape f.from f.into
+        (span_pass links.now.ends links.now.listed f.anchor k t) work.old }
 {
-    let u = point_sum(s, ends, listed, work, from, k).div(t);
-    point_gain(s, ends, listed, work, anchor, from, into, k, u);
+    let u = point_sum(links, work, f.from, k).div(t);
+    point_gain(links, work, f, k, u);
 }
 
 // The same; of a list of two, three or four each bearing is read once.
-fn list_step(
-    s: Shape,
-    ends: &[usize],
-    listed: &[usize],
-    work: &mut [f64],
-    anchor: usize,
-    from: usize,
-    into: usize,
-    k: Span,
-    t: f64,
-)
-    requires ends_sound { EndsSound s ends.now }
-    requires listed_sound { ListedSound s.bearings listed.now }
-    requires fields_in { FieldsIn s from into (length work.old) }
-    requires size_bound { k.first + k.size ≤ s.bearings }
-    ensures { work.new ≡ applied s from into (span_pass ends.now listed.now anchor k t) work.old }
+fn list_step(links: &Links<'_>, work: &mut [f64], f: Fields, k: Span, t: f64)
+    requires fields_in { FieldsIn links.now.shape f.from f.into (length work.old) }
+    requires size_bound { k.first + k.size ≤ links.now.shape.bearings }
+    ensures { work.new ≡ applied links.now.shape f.from f.into
+        (span_pass links.now.ends links.now.listed f.anchor k t) work.old }
 {
     let first = k.first;
     let size = k.size;
     match size {
-        2 => two_rows(s, ends, listed, work, anchor, from, into, first, t),
-        3 => three_rows(s, ends, listed, work, anchor, from, into, first, t),
-        4 => four_rows(s, ends, listed, work, anchor, from, into, first, t),
-        _ => long_step(s, ends, listed, work, anchor, from, into, k, t),
+        2 => two_rows(links, work, f, first, t),
+        3 => three_rows(links, work, f, first, t),
+        4 => four_rows(links, work, f, first, t),
+        _ => long_step(links, work, f, k, t),
     }
 }
 
 // Point p, skipped where its weight is below 1e-12.
-fn point_step(
-    s: Shape,
-    ends: &[usize],
-    offsets: &[usize],
-    listed: &[usize],
-    work: &mut [f64],
-    anchor: usize,
-    from: usize,
-    into: usize,
-    p: usize,
-)
-    requires links_sound { LinksSound (links s ends.now offsets.now listed.now) }
-    requires fields_in { FieldsIn s from into (length work.old) }
-    requires p_lt_points { p < s.points }
-    ensures { work.new ≡ applied s from into
-        (point_step (links s ends.now offsets.now listed.now) anchor p) work.old }
+fn point_step(links: &Links<'_>, work: &mut [f64], f: Fields, p: usize)
+    requires fields_in { FieldsIn links.now.shape f.from f.into (length work.old) }
+    requires p_lt_points { p < links.now.shape.points }
+    ensures { work.new ≡ applied links.now.shape f.from f.into (point_step links.now f.anchor p) work.old }
 {
-    let w = point_weight(s, work, p);
+    let w = point_weight(links.shape(), work, p);
     if w < 1e-12 {
         return;
     }
-    list_step(
-        s,
-        ends,
-        listed,
-        work,
-        anchor,
-        from,
-        into,
-        span_of(s, offsets, p),
-        w,
-    );
+    list_step(links, work, f, links.span(p), w);
 }
 
-fn points_pass(
-    s: Shape,
-    ends: &[usize],
-    offsets: &[usize],
-    listed: &[usize],
-    work: &mut [f64],
-    anchor: usize,
-    from: usize,
-    into: usize,
-)
-    requires links_sound { LinksSound (links s ends.now offsets.now listed.now) }
-    requires fields_in { FieldsIn s from into (length work.old) }
-    ensures { work.new ≡ applied s from into
-        (times (point_step (links s ends.now offsets.now listed.now) anchor) s.points) work.old }
+fn points_pass(links: &Links<'_>, work: &mut [f64], f: Fields)
+    requires { FieldsIn links.now.shape f.from f.into (length work.old) }
+    ensures { work.new ≡ applied links.now.shape f.from f.into
+        (times (point_step links.now f.anchor) links.now.shape.points) work.old }
 {
-    let m = s.points;
-    let mut p = 0usize;
-    while p < m {
-        point_step(s, ends, offsets, listed, work, anchor, from, into, p);
-        p += 1;
+    for p in 0..links.shape().points {
+        point_step(links, work, f, p);
     }
 }
 
@@ -269,65 +187,37 @@ fn between(s: Shape, work: &[f64], from: usize, r: usize, i: usize, j: usize) ->
 }
 
 // The source of direction d loses (target - source) × its effective weight, and then its target gains it.
-fn direction_step(
-    s: Shape,
-    ends: &[usize],
-    work: &mut [f64],
-    anchor: usize,
-    from: usize,
-    into: usize,
-    d: usize,
-)
-    requires ends_sound { EndsSound s ends.now }
-    requires fields_in { FieldsIn s from into (length work.old) }
-    requires d_lt_directions { d < s.directions }
-    ensures { work.new ≡ applied s from into (direction_step s.bearings ends.now anchor d) work.old }
+fn direction_step(e: &Ends<'_>, work: &mut [f64], f: Fields, d: usize)
+    requires fields_in { FieldsIn e.now.shape f.from f.into (length work.old) }
+    requires d_lt_directions { d < e.now.shape.directions }
+    ensures { work.new ≡ applied e.now.shape f.from f.into
+        (direction_step e.now.shape.bearings e.now.ends f.anchor d) work.old }
 {
+    let s = e.shape();
     let r = s.bearings + d;
-    let i = camera_of(s, ends, r);
-    let j = target_of(s, ends, r);
-    let v = between(s, work, from, r, i, j);
-    lose(work, s.cameras, anchor, into, i, v);
-    gain(work, s.cameras, anchor, into, j, v);
+    let i = e.camera(r);
+    let j = e.target(r);
+    let v = between(s, work, f.from, r, i, j);
+    lose(work, s.cameras, f.anchor, f.into, i, v);
+    gain(work, s.cameras, f.anchor, f.into, j, v);
 }
 
-fn directions_pass(
-    s: Shape,
-    ends: &[usize],
-    work: &mut [f64],
-    anchor: usize,
-    from: usize,
-    into: usize,
-)
-    requires ends_sound { EndsSound s ends.now }
-    requires fields_in { FieldsIn s from into (length work.old) }
-    ensures { work.new ≡ applied s from into (times (direction_step s.bearings ends.now anchor) s.directions)
-        work.old }
+fn directions_pass(e: &Ends<'_>, work: &mut [f64], f: Fields)
+    requires { FieldsIn e.now.shape f.from f.into (length work.old) }
+    ensures { work.new ≡ applied e.now.shape f.from f.into
+        (times (direction_step e.now.shape.bearings e.now.ends f.anchor) e.now.shape.directions) work.old }
 {
-    let e = s.directions;
-    let mut d = 0usize;
-    while d < e {
-        direction_step(s, ends, work, anchor, from, into, d);
-        d += 1;
+    for d in 0..e.shape().directions {
+        direction_step(e, work, f, d);
     }
 }
 
 // The system applied to the field at `from`: camera × 1e-6, then point by point, then direction by direction.
-pub(crate) fn apply_core(
-    work: &mut [f64],
-    s: Shape,
-    ends: &[usize],
-    offsets: &[usize],
-    listed: &[usize],
-    anchor: usize,
-    from: usize,
-    into: usize,
-)
-    requires { LinksSound (links s ends.now offsets.now listed.now) × FieldsIn s from into (length work.old) }
-    ensures { work.new ≡ reduced_in (links s ends.now offsets.now listed.now) anchor from into
-        work.old }
+pub(crate) fn apply_core(work: &mut [f64], links: &Links<'_>, f: Fields)
+    requires { FieldsIn links.now.shape f.from f.into (length work.old) }
+    ensures { work.new ≡ reduced_in links.now f.anchor f.from f.into work.old }
 {
-    ridge_pass(s, work, anchor, from, into);
-    points_pass(s, ends, offsets, listed, work, anchor, from, into);
-    directions_pass(s, ends, work, anchor, from, into);
+    ridge_pass(links.shape(), work, f);
+    points_pass(links, work, f);
+    directions_pass(links.ends(), work, f);
 }

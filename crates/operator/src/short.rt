@@ -3,13 +3,11 @@ ghost use Rattle.std.specs.Prelude.{◌≡◌, ◌+◌, ◌*◌, ◌<◌, ◌≤
 ghost use Rattle.field.specs.Vec.{origin, minus, scale, over};
 ghost use Rattle.field.specs.Buffer.{load, store, vector};
 ghost use Rattle.operator.specs.Operator.{span_pass};
-ghost use Rattle.network.specs.inner.Sound.{EndsSound, ListedSound};
 ghost use Rattle.operator.specs.inner.Applied.{PlacesIn, FieldsIn, Seen, added, applied, pushed};
 
-use crate::gain;
+use crate::{Fields, gain};
 use field::{Vec3, get3, zero};
-use network::Shape;
-use network::links::{camera_of, listed_at};
+use network::links::Links;
 use system::reads::row_weight;
 
 // What a point has of one bearing: its camera, its effective weight, and the camera's vector.
@@ -37,18 +35,16 @@ impl Sight {
 }
 
 // The bearing at place k of the point lists.
-fn seen(s: Shape, ends: &[usize], listed: &[usize], work: &[f64], from: usize, k: usize) -> Sight
-    requires ends_sound { EndsSound s ends.now }
-    requires listed_sound { ListedSound s.bearings listed.now }
-    requires places_in { PlacesIn s from k 1 (length work.now) }
-    ensures { Seen s ends.now work.now from (get_or listed.now k 0) result }
+fn seen(links: &Links<'_>, work: &[f64], from: usize, k: usize) -> Sight
+    requires { PlacesIn links.now.shape from k 1 (length work.now) }
+    ensures { Seen links.now.shape links.now.ends work.now from (get_or links.now.listed k 0) result }
 {
-    let r = listed_at(s, listed, k);
-    let c = camera_of(s, ends, r);
+    let r = links.listed(k);
+    let c = links.ends().camera(r);
     let v = get3(work, from + 3 * c);
     Sight {
         camera: c,
-        weight: row_weight(s, work, r),
+        weight: row_weight(links.shape(), work, r),
         at: v,
     }
 }
@@ -133,74 +129,48 @@ fn four_step(
     two_gain(work, n, anchor, into, s2, s3, u);
 }
 
-pub(crate) fn two_rows(
-    s: Shape,
-    ends: &[usize],
-    listed: &[usize],
-    work: &mut [f64],
-    anchor: usize,
-    from: usize,
-    into: usize,
-    k: usize,
-    t: f64,
-)
-    requires ends_sound { EndsSound s ends.now }
-    requires listed_sound { ListedSound s.bearings listed.now }
-    requires fields_in { FieldsIn s from into (length work.old) }
-    requires k_bound { k + 2 ≤ s.bearings }
-    ensures { work.new ≡ applied s from into
-        (span_pass ends.now listed.now anchor (record { first = k; size = 2 }) t) work.old }
+pub(crate) fn two_rows(links: &Links<'_>, work: &mut [f64], f: Fields, k: usize, t: f64)
+    requires fields_in { FieldsIn links.now.shape f.from f.into (length work.old) }
+    requires k_bound { k + 2 ≤ links.now.shape.bearings }
+    ensures { work.new ≡ applied links.now.shape f.from f.into
+        (span_pass links.now.ends links.now.listed f.anchor (record { first = k; size = 2 }) t) work.old }
 {
-    let s0 = seen(s, ends, listed, work, from, k);
-    let s1 = seen(s, ends, listed, work, from, k + 1);
-    two_step(work, s.cameras, anchor, into, s0, s1, t);
+    let s0 = seen(links, work, f.from, k);
+    let s1 = seen(links, work, f.from, k + 1);
+    two_step(work, links.shape().cameras, f.anchor, f.into, s0, s1, t);
 }
 
-pub(crate) fn three_rows(
-    s: Shape,
-    ends: &[usize],
-    listed: &[usize],
-    work: &mut [f64],
-    anchor: usize,
-    from: usize,
-    into: usize,
-    k: usize,
-    t: f64,
-)
-    requires ends_sound { EndsSound s ends.now }
-    requires listed_sound { ListedSound s.bearings listed.now }
-    requires fields_in { FieldsIn s from into (length work.old) }
-    requires k_bound { k + 3 ≤ s.bearings }
-    ensures { work.new ≡ applied s from into
-        (span_pass ends.now listed.now anchor (record { first = k; size = 3 }) t) work.old }
+pub(crate) fn three_rows(links: &Links<'_>, work: &mut [f64], f: Fields, k: usize, t: f64)
+    requires fields_in { FieldsIn links.now.shape f.from f.into (length work.old) }
+    requires k_bound { k + 3 ≤ links.now.shape.bearings }
+    ensures { work.new ≡ applied links.now.shape f.from f.into
+        (span_pass links.now.ends links.now.listed f.anchor (record { first = k; size = 3 }) t) work.old }
 {
-    let s0 = seen(s, ends, listed, work, from, k);
-    let s1 = seen(s, ends, listed, work, from, k + 1);
-    let s2 = seen(s, ends, listed, work, from, k + 2);
-    three_step(work, s.cameras, anchor, into, s0, s1, s2, t);
+    let s0 = seen(links, work, f.from, k);
+    let s1 = seen(links, work, f.from, k + 1);
+    let s2 = seen(links, work, f.from, k + 2);
+    three_step(work, links.shape().cameras, f.anchor, f.into, s0, s1, s2, t);
 }
 
-pub(crate) fn four_rows(
-    s: Shape,
-    ends: &[usize],
-    listed: &[usize],
-    work: &mut [f64],
-    anchor: usize,
-    from: usize,
-    into: usize,
-    k: usize,
-    t: f64,
-)
-    requires ends_sound { EndsSound s ends.now }
-    requires listed_sound { ListedSound s.bearings listed.now }
-    requires fields_in { FieldsIn s from into (length work.old) }
-    requires k_bound { k + 4 ≤ s.bearings }
-    ensures { work.new ≡ applied s from into
-        (span_pass ends.now listed.now anchor (record { first = k; size = 4 }) t) work.old }
+pub(crate) fn four_rows(links: &Links<'_>, work: &mut [f64], f: Fields, k: usize, t: f64)
+    requires fields_in { FieldsIn links.now.shape f.from f.into (length work.old) }
+    requires k_bound { k + 4 ≤ links.now.shape.bearings }
+    ensures { work.new ≡ applied links.now.shape f.from f.into
+        (span_pass links.now.ends links.now.listed f.anchor (record { first = k; size = 4 }) t) work.old }
 {
-    let s0 = seen(s, ends, listed, work, from, k);
-    let s1 = seen(s, ends, listed, work, from, k + 1);
-    let s2 = seen(s, ends, listed, work, from, k + 2);
-    let s3 = seen(s, ends, listed, work, from, k + 3);
-    four_step(work, s.cameras, anchor, into, s0, s1, s2, s3, t);
+    let s0 = seen(links, work, f.from, k);
+    let s1 = seen(links, work, f.from, k + 1);
+    let s2 = seen(links, work, f.from, k + 2);
+    let s3 = seen(links, work, f.from, k + 3);
+    four_step(
+        work,
+        links.shape().cameras,
+        f.anchor,
+        f.into,
+        s0,
+        s1,
+        s2,
+        s3,
+        t,
+    );
 }

@@ -1,4 +1,7 @@
 -- How checks, routes and outputs make the solve, and what its accepted answers mean. Assumes nothing.
+use Rattle.std.proofs.Common.{Result}
+use Rattle.network.specs.declared.Cause.TheVariants.{Dimension}
+use Rattle.std.proofs.Common.{Err, Ok}
 use Prim.Native.Nat.{ℕ, ◌-◌, ◌*◌, ◌≤◌}
 use mathlib.Core.Path.{◌≡◌, refl, sym, ap, subst, ◌∙◌}
 use mathlib.Core.List.{List, [], ◌++◌}
@@ -14,8 +17,7 @@ use Rattle.field.specs.Vec.{null}
 use Rattle.field.specs.Buffer.{load, store, flat, vector}
 use Rattle.field.proofs.Buffers.{length-load, store-whole, load-flat, vector-lawful}
 use Rattle.network.specs.declared.Refusal.{Refusal}
-use Rattle.network.specs.declared.Verdict.{Verdict}
-use Rattle.network.specs.declared.Verdict.TheVariants.{Refused as Stops, Passed}
+use Rattle.network.specs.Refusals.{Verdict}
 use Rattle.network.specs.Network.{Network, links, links_of, network}
 use Rattle.network.specs.declared.Shape.{Shape}
 use Rattle.network.specs.inner.Sound.{LinksSound, NetworkLengths, NetworkSound}
@@ -35,14 +37,11 @@ use Rattle.iterative.specs.Reduced.{problem, problem_by}
 use Rattle.iterative.specs.Accepted.{Accepted as Meaning}
 use Rattle.iterative.proofs.Acceptance.{accepted-network}
 use Rattle.iterative.proofs.Solving.{problem-held}
-use Rattle.cholesky.specs.Cholesky.{Result, done, stopped}
+use Rattle.cholesky.specs.declared.Breakdown.{Breakdown}
 use Rattle.dense.specs.Dense.{dense_solution, dimension}
 use Rattle.dense.proofs.Solving.{dense-held}
-use Rattle.placement.specs.declared.Answer.{Answer}
-use Rattle.placement.specs.declared.Answer.TheVariants.{Refused, Accepted}
 use Rattle.placement.specs.declared.Report.{Report}
-use Rattle.placement.specs.declared.routes.Ended.{Ended}
-use Rattle.placement.specs.declared.routes.Ended.TheVariants.{Failed, Placed}
+use Rattle.placement.specs.declared.routes.Finish.{Finish}
 use Rattle.placement.specs.Routes.{Submission, Placement, rejected, failing, placed, failing_at, submission, dense_or, by_iterative, fall_back, routed_by, routed, buffers_fit}
 use Rattle.placement.specs.Routes.{lent_fits, submission_tests, submission_verdict, early_verdict, checked, placement}
 use Rattle.placement.specs.Solved.{answer_of, cameras_after, points_after, work_after, Solved}
@@ -51,32 +50,24 @@ use Rattle.placement.proofs.Routing.{route-cases, surplus-more, work-room}
 
 -- ---- the checks
 
-pub buffers-are : (s : Shape) (marks route limit work cameras points t : ℕ) (x y z : Bool) → t ≡ work_length s route limit → x ≡ (eqb points (3 * s.points) && leb t work) →
-    y ≡ (eqb cameras (3 * s.cameras) && x) → z ≡ (eqb marks s.bearings && y) → z ≡ buffers_fit s marks route limit work cameras points
-unfolding buffers_fit
-buffers-are s marks route limit work cameras points t x y z e f g h = rw (← e, ← f, ← g) h
-
-pub lengths-are : (v : Verdict) (x y b c : Bool) → x ≡ b → y ≡ c → (z : Bool) → z ≡ (x && y) → v ≡ verdict (length_tests z) → v ≡ verdict (length_tests (b && c))
-lengths-are v x y b c e f z g h = h ∙ rw (g, e, f)
-
 module _ (s : Shape) (ends : List ℕ) (rays weights scales points : List Float) (offsets listed : List ℕ) where
   abbrev net : Network
   net = network s ends rays weights scales points offsets listed
 
-  module _ (marks route limit work cameras out : ℕ) (v : Verdict) (f : v ≡ verdict (length_tests (network_fits net && buffers_fit s marks route limit work cameras out))) (q : v ≡ Passed) where
+  module _ (marks route limit work cameras out : ℕ) (v : Verdict) (f : v ≡ verdict (length_tests (network_fits net && buffers_fit s marks route limit work cameras out))) (q : v ≡ Ok tt) where
     pub lengths-measured : NetworkLengths net × (marks ≡ s.bearings)
     unfolding buffers_fit
     lengths-measured =
         let g = both_true (network_fits net) _ (lengths-fit _ (sym f ∙ q)) in
         (network-fits net g.0, eqb-true _ _ (both_true (eqb marks s.bearings) _ g.1).0)
 
-    pub submission-checked : (x y : Verdict) → x ≡ verdict (count_tests s) → x ≡ Passed → y ≡ verdict (network_row_tests net [] ++ route_tests route limit) →
+    pub submission-checked : (x y : Verdict) → x ≡ verdict (count_tests s) → x ≡ Ok tt → y ≡ verdict (network_row_tests net [] ++ route_tests route limit) →
         y ≡ submission_verdict (submission net marks route limit work cameras out)
     unfolding submission_tests
     submission-checked x y e p h = passes-in (count_tests s) _ e p (passes-in (length_tests _) _ f q h)
 
 -- 1 to 7 of the network are among a solve's tests
-pub network-passes : (i : Submission) → submission_verdict i ≡ Passed → verdict (network_tests i.net) ≡ Passed
+pub network-passes : (i : Submission) → submission_verdict i ≡ Ok tt → verdict (network_tests i.net) ≡ Ok tt
 unfolding submission_tests network_tests
 network-passes i e =
     let s = i.net.shape in
@@ -91,7 +82,7 @@ pub record SubmissionSound (i : Submission) : Type 0 where
   pub cameras : i.cameras ≡ 3 * i.net.shape.cameras
   pub points : i.points ≡ 3 * i.net.shape.points
 
-pub submission-sound : (i : Submission) (v : Verdict) → v ≡ submission_verdict i → v ≡ Passed → SubmissionSound i
+pub submission-sound : (i : Submission) (v : Verdict) → v ≡ submission_verdict i → v ≡ Ok tt → SubmissionSound i
 unfolding submission_tests buffers_fit
 submission-sound i v h p =
     let net = i.net in
@@ -114,19 +105,19 @@ submission-sound i v h p =
 
 -- ---- the answer of a route
 
-told : (a k : ℕ) (o : Ended) (cs : List Vec3) → outcome (reported a k o) cs ≡ ended_with o cs
-told a k (Failed r) cs = refl
-told a k (Placed route rounds) cs = refl
+told : (a k : ℕ) (o : Result Finish Refusal) (cs : List Vec3) → outcome (reported a k o) cs ≡ ended_with o cs
+told a k (Err r) cs = refl
+told a k (Ok f) cs = refl
 
-answer-told : (net : Network) (o : Ended) (cs : List Vec3) → reported (anchor net) (few net) o ≡ answer_of net (ended_with o cs)
-answer-told net (Failed r) cs = refl
-answer-told net (Placed route rounds) cs = refl
+answer-told : (net : Network) (o : Result Finish Refusal) (cs : List Vec3) → reported (anchor net) (few net) o ≡ answer_of net (ended_with o cs)
+answer-told net (Err r) cs = refl
+answer-told net (Ok f) cs = refl
 
-pub answered-failed : {o : Ended} {q : Refusal} (a k : ℕ) → o ≡ Failed q → Refused q ≡ reported a k o
+pub answered-failed : {o : Result Finish Refusal} {q : Refusal} (a k : ℕ) → o ≡ Err q → Err q ≡ reported a k o
 answered-failed a k e = rw e
 
-pub answered-placed : {o : Ended} {route rounds : ℕ} (a f k : ℕ) → o ≡ Placed route rounds → f ≡ k →
-    Accepted (record { anchor = a; route = route; rounds = rounds; few = f }) ≡ reported a k o
+pub answered-placed : {o : Result Finish Refusal} {t : Finish} (a f k : ℕ) → o ≡ Ok t → f ≡ k →
+    Ok (record { anchor = a; route = t.route; rounds = t.rounds; few = f }) ≡ reported a k o
 answered-placed a f k e h = rw (e, h)
 
 -- ---- the system is formed and the route taken
@@ -152,11 +143,11 @@ module _ (s : Shape) (ends : List ℕ) (rays weights scales points : List Float)
   pub formed-ready : Checked (network s ends rays weights scales points offsets listed) route limit (length l) → RouteReady s a route limit (length l1)
   formed-ready C = record { anchor = F.below; legal = C.legal; room = rw F.size C.room }
 
-  pub formed-room : Checked (network s ends rays weights scales points offsets listed) route limit (length l) → (x : Placement) (l2 : List Float) (e : Ended) →
+  pub formed-room : Checked (network s ends rays weights scales points offsets listed) route limit (length l) → (x : Placement) (l2 : List Float) (e : Result Finish Refusal) →
       Routed s (work_length s route limit) x l1 l2 e → matrix_at s ≤ length l2
   formed-room C x l2 e R = rw (R.size ∙ F.size) (checked-room s ends rays weights scales points offsets listed route limit (length l) C)
 
-  pub run-done : (l2 : List Float) (e : Ended) (r : Answer) → Checked (network s ends rays weights scales points offsets listed) route limit (length l) →
+  pub run-done : (l2 : List Float) (e : Result Finish Refusal) (r : Result Report Refusal) → Checked (network s ends rays weights scales points offsets listed) route limit (length l) →
       Routed s (work_length s route limit) (routed_by (dimension s) route limit (iterative_in (links s ends offsets listed) a l1) (dense_in (links s ends offsets listed) a l1)) l1 l2 e →
       r ≡ reported a (few_in (load term l2 0 s.cameras) s.cameras) e →
       Ran (network s ends rays weights scales points offsets listed) route limit l l2 r
@@ -172,7 +163,7 @@ module _ (s : Shape) (ends : List ℕ) (rays weights scales points : List Float)
       let f : few_in (load term l2 0 s.cameras) s.cameras ≡ few net = ap (λ (ts : List CameraTerm). few_in ts s.cameras) S2.terms ∙ few-counted net C.sound in
       let z : ended_with o (positions_in s l2) ≡ routed net route limit = R.answer ∙ rw (x, y) in
       record {
-        ended = ap (λ (q : Answer). outcome q (positions_in s l2)) h ∙ told a _ o (positions_in s l2) ∙ z;
+        ended = ap (λ (q : Result Report Refusal). outcome q (positions_in s l2)) h ∙ told a _ o (positions_in s l2) ∙ z;
         answer = h ∙ rw (e, f) (answer-told net o (positions_in s l2)) ∙ ap (answer_of net) z;
         segments = S2;
         surplus = R.surplus ∙ surplus-more _ _ l l1 F.surplus (work-room s route limit);
@@ -185,18 +176,18 @@ pub cameras-filled : (n : ℕ) (l out out' : List Float) (p : ℕ) → p ≡ ter
     out' ≡ flat vector (load vector l (term_place n) n)
 cameras-filled n l out out' p ep h e = e ∙ store-whole vector vector-lawful out (load vector l p n) (rw (length-load vector l p n) h) ∙ rw ep
 
-module _ (s : Shape) (ends : List ℕ) (rays weights scales points : List Float) (offsets listed : List ℕ) (route limit : ℕ) (l l1 cameras placed0 : List Float) (r : Answer)
+module _ (s : Shape) (ends : List ℕ) (rays weights scales points : List Float) (offsets listed : List ℕ) (route limit : ℕ) (l l1 cameras placed0 : List Float) (r : Result Report Refusal)
     (C : Checked (network s ends rays weights scales points offsets listed) route limit (length l))
     (R : Ran (network s ends rays weights scales points offsets listed) route limit l l1 r) where
   pub ran-room : matrix_at s ≤ length l1
   ran-room = rw R.size (checked-room s ends rays weights scales points offsets listed route limit (length l) C)
 
-  pub placed-accepted : (p : Report) (cameras' placed' : List Float) → r ≡ Accepted p → cameras' ≡ flat vector (positions_in s l1) →
+  pub placed-accepted : (p : Report) (cameras' placed' : List Float) → r ≡ Ok p → cameras' ≡ flat vector (positions_in s l1) →
       placed' ≡ flat vector (points_by (network s ends rays weights scales points offsets listed) (weights_in s l1) (positions_in s l1)) →
-      OutputsFilled (network s ends rays weights scales points offsets listed) route limit (Accepted p) l l1 cameras cameras' placed0 placed'
+      OutputsFilled (network s ends rays weights scales points offsets listed) route limit (Ok p) l l1 cameras cameras' placed0 placed'
   placed-accepted p cameras' placed' e c q =
       let net = network s ends rays weights scales points offsets listed in
-      let x : placed p.route p.rounds (positions_in s l1) ≡ routed net route limit = ap (λ (y : Answer). outcome y (positions_in s l1)) (sym e) ∙ R.ended in
+      let x : placed p.route p.rounds (positions_in s l1) ≡ routed net route limit = ap (λ (y : Result Report Refusal). outcome y (positions_in s l1)) (sym e) ∙ R.ended in
       let z = points-recovered s ends rays weights scales points offsets listed (terms net) l1 (positions_in s l1) placed' C.sound.links R.segments q in
       record {
         answer = sym e ∙ R.answer;
@@ -206,12 +197,12 @@ module _ (s : Shape) (ends : List ℕ) (rays weights scales points : List Float)
         size = R.size;
       }
 
-  pub placed-refused : (q : Refusal) → r ≡ Refused q → OutputsFilled (network s ends rays weights scales points offsets listed) route limit r l l1 cameras cameras placed0 placed0
+  pub placed-refused : (q : Refusal) → r ≡ Err q → OutputsFilled (network s ends rays weights scales points offsets listed) route limit (Err q) l l1 cameras cameras placed0 placed0
   placed-refused q e =
       let net = network s ends rays weights scales points offsets listed in
-      let x : failing q ≡ routed net route limit = ap (λ (y : Answer). outcome y (positions_in s l1)) (sym e) ∙ R.ended in
+      let x : failing q ≡ routed net route limit = ap (λ (y : Result Report Refusal). outcome y (positions_in s l1)) (sym e) ∙ R.ended in
       record {
-        answer = R.answer;
+        answer = sym e ∙ R.answer;
         cameras_out = ap (λ (y : Placement). cameras_after y cameras) x;
         points_out = ap (λ (y : Placement). points_after net y placed0) x;
         surplus = R.surplus;
@@ -223,14 +214,14 @@ module _ (s : Shape) (ends : List ℕ) (rays weights scales points : List Float)
 abbrev Zeroed : Placement → Type 0
 Zeroed x = (t : ℕ) (l : List Float) → work_after t x l ≡ replicate t null ++ drop t l
 
-zeroed-dense : (r : ℕ) (y : Result (List Vec3)) (b : Bool) (k i : ℕ) → Zeroed (dense_or b r y (failing_at k i))
-zeroed-dense r (done c) true k i t l = refl
-zeroed-dense r (stopped j p) true k i t l = refl
-zeroed-dense r y false k i t l = refl
+zeroed-dense : (r : ℕ) (y : Result (List Vec3) Breakdown) (b : Bool) (q : Refusal) → Zeroed (dense_or b r y (failing q))
+zeroed-dense r (Ok c) true q t l = refl
+zeroed-dense r (Err b) true q t l = refl
+zeroed-dense r y false q t l = refl
 
-zeroed-iterative : (x : Ending) (f : ℕ → ℕ → Placement) → ((k i : ℕ) → Zeroed (f k i)) → Zeroed (by_iterative x f)
+zeroed-iterative : (x : Ending) (f : Refusal → Placement) → ((q : Refusal) → Zeroed (f q)) → Zeroed (by_iterative x f)
 zeroed-iterative (accepted s) f h = λ t l. refl
-zeroed-iterative (refused k i) f h = h k i
+zeroed-iterative (refused r) f h = h r
 
 zeroed-routed : (net : Network) (route limit : ℕ) → bad_route route limit ≡ false → Zeroed (routed net route limit)
 unfolding routed
@@ -238,9 +229,9 @@ zeroed-routed net route limit e =
     let d = net.shape.cameras - 1 in
     let x = solution (problem net) in
     let y = dense_solution net in
-    route-cases d limit x y Zeroed route e (zeroed-dense 1 y (leb d limit) 14 d)
-    (zeroed-iterative x failing_at (λ k i t l. refl))
-    (zeroed-iterative x (fall_back d limit y) (λ k i. zeroed-dense 3 y (leb d limit) k i))
+    route-cases d limit x y Zeroed route e (zeroed-dense 1 y (leb d limit) _)
+    (zeroed-iterative x failing (λ q t l. refl))
+    (zeroed-iterative x (fall_back d limit y) (λ q. zeroed-dense 3 y (leb d limit) q))
 
 -- ---- demand 3
 
@@ -250,16 +241,16 @@ Other (rejected r) = Unit {0}
 Other (failing r) = Unit {0}
 Other (placed route rounds cameras) = route ≡ 2 → ⊥
 
-other-dense : (r : ℕ) (y : Result (List Vec3)) (b : Bool) (k i : ℕ) → (r ≡ 2 → ⊥) → Other (dense_or b r y (failing_at k i))
-other-dense r (done c) true k i h = h
-other-dense r (stopped u v) true k i h = tt
-other-dense r y false k i h = tt
+other-dense : (r : ℕ) (y : Result (List Vec3) Breakdown) (b : Bool) (q : Refusal) → (r ≡ 2 → ⊥) → Other (dense_or b r y (failing q))
+other-dense r (Ok c) true q h = h
+other-dense r (Err u) true q h = tt
+other-dense r y false q h = tt
 
-abbrev report_in : Answer → Report → Report
-report_in (Refused r) p = p
-report_in (Accepted q) p = q
+abbrev report_in : Result Report Refusal → Report → Report
+report_in (Err r) p = p
+report_in (Ok q) p = q
 
-refused-not : (r : Refusal) (p : Report) → Refused r ≡ Accepted p → ⊥
+refused-not : (r : Refusal) (p : Report) → Err r ≡ Ok p → ⊥
 refused-not r p e = let z : ◌≡◌ {A = ℕ} 0 1 = cc in omega arith
 
 module _ (net : Network) (N : NetworkSound net) where
@@ -267,22 +258,22 @@ module _ (net : Network) (N : NetworkSound net) where
   d = net.shape.cameras - 1
 
   abbrev Meant : Placement → Type 0
-  Meant x = (old : List Float) (p : Report) → answer_of net x ≡ Accepted p → p.route ≡ 2 →
+  Meant x = (old : List Float) (p : Report) → answer_of net x ≡ Ok p → p.route ≡ 2 →
       (p.anchor ≡ anchor net) × Meaning (problem net) (load vector (cameras_after x old) 0 net.shape.cameras) p.rounds
 
   meant-other : (x : Placement) → Other x → Meant x
   meant-other (rejected r) h old p e f = absurd (refused-not r p e)
   meant-other (failing r) h old p e f = absurd (refused-not r p e)
-  meant-other (placed route rounds cameras) h old p e f = absurd (h (ap (λ (q : Answer). (report_in q p).route) e ∙ f))
+  meant-other (placed route rounds cameras) h old p e f = absurd (h (ap (λ (q : Result Report Refusal). (report_in q p).route) e ∙ f))
 
-  meant-iterative : (x : Ending) → solution (problem net) ≡ x → (f : ℕ → ℕ → Placement) → ((k i : ℕ) → Other (f k i)) → Meant (by_iterative x f)
+  meant-iterative : (x : Ending) → solution (problem net) ≡ x → (f : Refusal → Placement) → ((q : Refusal) → Other (f q)) → Meant (by_iterative x f)
   unfolding problem_by
   meant-iterative (accepted s) q f h old p e g =
       let M = accepted-network net N s q in
-      let c : s.round.count ≡ p.rounds = ap (λ (z : Answer). (report_in z p).rounds) e in
+      let c : s.round.count ≡ p.rounds = ap (λ (z : Result Report Refusal). (report_in z p).rounds) e in
       let b : load vector (flat vector s.positions) 0 net.shape.cameras ≡ s.positions = load-flat vector vector-lawful s.positions net.shape.cameras M.fits.placed in
-      (sym (ap (λ (z : Answer). (report_in z p).anchor) e), rw b (subst (λ (j : ℕ). Meaning (problem net) s.positions j) c M))
-  meant-iterative (refused j i) q f h old p e g = meant-other (f j i) (h j i) old p e g
+      (sym (ap (λ (z : Result Report Refusal). (report_in z p).anchor) e), rw b (subst (λ (j : ℕ). Meaning (problem net) s.positions j) c M))
+  meant-iterative (refused r) q f h old p e g = meant-other (f r) (h r) old p e g
 
   meant-routed : (route limit : ℕ) → bad_route route limit ≡ false → Meant (routed net route limit)
   unfolding routed
@@ -290,13 +281,13 @@ module _ (net : Network) (N : NetworkSound net) where
       let x = solution (problem net) in
       let y = dense_solution net in
       route-cases d limit x y Meant route e
-      (meant-other (dense_or (leb d limit) 1 y (failing_at 14 d)) (other-dense 1 y (leb d limit) 14 d (λ z. omega arith)))
-      (meant-iterative x refl failing_at (λ k i. tt))
-      (meant-iterative x refl (fall_back d limit y) (λ k i. other-dense 3 y (leb d limit) k i (λ z. omega arith)))
+      (meant-other (dense_or (leb d limit) 1 y (failing_at Dimension d)) (other-dense 1 y (leb d limit) _ (λ z. omega arith)))
+      (meant-iterative x refl failing (λ q. tt))
+      (meant-iterative x refl (fall_back d limit y) (λ q. other-dense 3 y (leb d limit) q (λ z. omega arith)))
 
 -- ---- the solve
 
-pub clear_room : (net : Network) (route limit t : ℕ) (r : Answer) (work mid cameras cameras' points points' : List Float) → Checked net route limit (length work) →
+pub clear_room : (net : Network) (route limit t : ℕ) (r : Result Report Refusal) (work mid cameras cameras' points points' : List Float) → Checked net route limit (length work) →
     OutputsFilled net route limit r work mid cameras cameras' points points' → t ≡ work_length net.shape route limit → t ≤ length mid
 clear_room net route limit t r work mid cameras cameras' points points' C P e = rw (e, P.size) C.room
 
@@ -305,7 +296,7 @@ module _ (i : Submission) (v : Verdict) (marks marks' : List ℕ) (work cameras 
   abbrev T : ℕ
   T = work_length i.net.shape i.route i.limit
 
-  pub solve-rejected : (r : Refusal) → v ≡ Stops r → Solved i (Refused r) marks marks' work work cameras cameras points points
+  pub solve-rejected : (r : Refusal) → v ≡ Err r → Solved i (Err r) marks marks' work work cameras cameras points points
   unfolding placement
   solve-rejected r h =
       let q : rejected r ≡ placement i = ap (λ (u : Verdict). checked u (routed i.net i.route i.limit)) (sym h ∙ e) in
@@ -318,7 +309,7 @@ module _ (i : Submission) (v : Verdict) (marks marks' : List ℕ) (work cameras 
         meaning = λ p f g. absurd (refused-not r p f);
       }
 
-  pub solve-placed : (r : Answer) (t : ℕ) (mid work' cameras' points' : List Float) → v ≡ Passed → OutputsFilled i.net i.route i.limit r work mid cameras cameras' points points' →
+  pub solve-placed : (r : Result Report Refusal) (t : ℕ) (mid work' cameras' points' : List Float) → v ≡ Ok tt → OutputsFilled i.net i.route i.limit r work mid cameras cameras' points points' →
       t ≡ work_length i.net.shape i.route i.limit → work' ≡ replicate t null ++ drop t mid → Solved i r marks marks' work work' cameras cameras' points points'
   unfolding placement problem_by
   solve-placed r t mid work' cameras' points' h P w z =

@@ -1,4 +1,6 @@
 -- How the answers of the dense and of the iterative solve make those of the routes, from what the calls ensure. Assumes nothing.
+use Rattle.std.proofs.Common.{Err, Ok, Result}
+use Rattle.network.specs.declared.Cause.TheVariants.{Dimension}
 use Prim.Native.Nat.{ℕ, zero, suc, ◌+◌, ◌-◌, ◌≤◌, ◌<◌}
 use mathlib.Core.Path.{◌≡◌, refl, sym, ap, ap₂, ◌∙◌}
 use mathlib.Core.List.{List}
@@ -18,23 +20,19 @@ use Rattle.system.specs.Work.{matrix_at, term, weights_at, work_end, work_length
 use Rattle.system.specs.inner.Formed.{positions_in, weights_in}
 use Rattle.system.proofs.Segments.{work-length-is}
 use Rattle.operator.proofs.Buffered.{weights-kept}
-use Rattle.iterative.specs.declared.Outcome.{Outcome}
-use Rattle.iterative.specs.declared.Outcome.TheVariants as iterative
 use Rattle.iterative.specs.Method.{Ending, State, accepted, refused, solution}
 use Rattle.iterative.specs.Problem.{Problem}
 use Rattle.iterative.specs.Reduced.{problem_by}
 use Rattle.field.specs.Buffer.{load}
 use Rattle.iterative.specs.inner.Solver.{IterativeSolved, answer_of}
 use Rattle.iterative.proofs.Kept.{segments-outside}
-use Rattle.cholesky.specs.declared.Solve.{Solve}
-use Rattle.cholesky.specs.declared.Solve.TheVariants.{Done, Stopped}
-use Rattle.cholesky.specs.Cholesky.{Result, ended}
+use Rattle.cholesky.specs.declared.Breakdown.{Breakdown}
+use Rattle.cholesky.specs.Cholesky.{ended}
 use Rattle.dense.specs.Dense.{dimension}
 use Rattle.dense.specs.inner.Held.{DenseSolved}
 use Rattle.dense.proofs.Solving.{segments-kept}
-use Rattle.placement.specs.declared.routes.Ended.{Ended}
-use Rattle.placement.specs.declared.routes.Ended.TheVariants.{Failed, Placed}
-use Rattle.placement.specs.Routes.{Placement, placed, failing_at, by_dense, dense_or, by_iterative, fall_back, routed_by}
+use Rattle.placement.specs.declared.routes.Finish.{Finish}
+use Rattle.placement.specs.Routes.{Placement, broken, failing, placed, failing_at, by_dense, dense_or, by_iterative, fall_back, routed_by}
 use Rattle.placement.specs.inner.Routing.{RouteReady, Routed, after_refusal, dense_in, ended_with, iterative_in}
 
 -- ---- the length of the work buffer
@@ -67,70 +65,70 @@ surplus-more p q l l' e h =
 
 -- ---- a route that has nothing to do, and the same one under another name
 
-same : (s : Shape) (t : ℕ) (x : Placement) (l : List Float) (r : Ended) → ended_with r (positions_in s l) ≡ x → Routed s t x l l r
+same : (s : Shape) (t : ℕ) (x : Placement) (l : List Float) (r : Result Finish Refusal) → ended_with r (positions_in s l) ≡ x → Routed s t x l l r
 same s t x l r e = record { answer = e; segments = λ w ts S. S; surplus = refl; size = refl }
 
-renamed : (s : Shape) (t u : ℕ) (x y : Placement) (l l' : List Float) (r : Ended) → t ≡ u → x ≡ y → Routed s t x l l' r → Routed s u y l l' r
+renamed : (s : Shape) (t u : ℕ) (x y : Placement) (l l' : List Float) (r : Result Finish Refusal) → t ≡ u → x ≡ y → Routed s t x l l' r → Routed s u y l l' r
 renamed s t u x y l l' r e f R = record { answer = R.answer ∙ f; segments = R.segments; surplus = rw (← e) R.surplus; size = R.size }
 
 -- ---- dense
 
-module _ (s : Shape) (d route : ℕ) (y : Result (List Vec3)) (l l' : List Float) (r : Solve) (S : DenseSolved s d y l l' r) where
-  dense-routed : (q : Ended) → ended_with q (positions_in s l') ≡ by_dense route y → Routed s (work_end s d) (by_dense route y) l l' q
+module _ (s : Shape) (d route : ℕ) (y : Result (List Vec3) Breakdown) (l l' : List Float) (r : Result (Unit {0}) Breakdown) (S : DenseSolved s d y l l' r) where
+  dense-routed : (q : Result Finish Refusal) → ended_with q (positions_in s l') ≡ by_dense route y → Routed s (work_end s d) (by_dense route y) l l' q
   dense-routed q e = record { answer = e; segments = λ w ts. segments-kept s d w ts l l' S.kept; surplus = S.kept.surplus; size = S.kept.size }
 
-  ending : (x : Solve) → r ≡ x → ended x (positions_in s l') ≡ y
-  ending x e = ap (λ (z : Solve). ended z (positions_in s l')) (sym e) ∙ S.answer
+  ending : (x : Result (Unit {0}) Breakdown) → r ≡ x → ended x (positions_in s l') ≡ y
+  ending x e = ap (λ (z : Result (Unit {0}) Breakdown). ended z (positions_in s l')) (sym e) ∙ S.answer
 
-  pub dense-done : r ≡ Done → Routed s (work_end s d) (by_dense route y) l l' (Placed route 0)
-  dense-done e = dense-routed _ (ap (by_dense route) (ending Done e))
+  pub dense-done : r ≡ Ok tt → Routed s (work_end s d) (by_dense route y) l l' (Ok (record { route = route; rounds = 0 }))
+  dense-done e = dense-routed _ (ap (by_dense route) (ending (Ok tt) e))
 
-  pub dense-stopped : (k i : ℕ) → r ≡ Stopped k i → Routed s (work_end s d) (by_dense route y) l l' (Failed (record { number = k; place = i }))
-  dense-stopped k i e = dense-routed _ (ap (by_dense route) (ending (Stopped k i) e))
+  pub dense-stopped : (b : Breakdown) {q : Refusal} → r ≡ Err b → q ≡ broken b → Routed s (work_end s d) (by_dense route y) l l' (Err q)
+  dense-stopped b e f = rw f (dense-routed _ (ap (by_dense route) (ending (Err b) e)))
 
 -- ---- within the limit or not
 
 module _ (s : Shape) (ends offsets listed : List ℕ) (a limit : ℕ) (l : List Float) where
-  abbrev y : Result (List Vec3)
+  abbrev y : Result (List Vec3) Breakdown
   y = dense_in (links s ends offsets listed) a l
 
   pub first-over : (d : ℕ) → d ≡ dimension s → limit < d →
-      Routed s (work_length s 1 limit) (dense_or (leb (dimension s) limit) 1 y (failing_at 14 (dimension s))) l l (Failed (record { number = 14; place = d }))
+      Routed s (work_length s 1 limit) (dense_or (leb (dimension s) limit) 1 y (failing_at Dimension (dimension s))) l l (Err (record { cause = Dimension; place = d }))
   first-over d e h = same s _ _ l _ (rw (e, lt-leb (dimension s) limit (rw e at h)))
 
-  pub first-dense : (d : ℕ) (l' : List Float) (r : Ended) → RouteReady s a 1 limit (length l) → d ≡ dimension s → d ≤ limit → Routed s (work_end s (dimension s)) (by_dense 1 y) l l' r →
-      Routed s (work_length s 1 limit) (dense_or (leb (dimension s) limit) 1 y (failing_at 14 (dimension s))) l l' r
+  pub first-dense : (d : ℕ) (l' : List Float) (r : Result Finish Refusal) → RouteReady s a 1 limit (length l) → d ≡ dimension s → d ≤ limit → Routed s (work_end s (dimension s)) (by_dense 1 y) l l' r →
+      Routed s (work_length s 1 limit) (dense_or (leb (dimension s) limit) 1 y (failing_at Dimension (dimension s))) l l' r
   first-dense d l' r R e h D =
       let k : dimension s ≤ limit = rw e at h in
       renamed s _ _ _ _ l l' r (sym (dense-end s 1 limit R.legal (λ z. omega arith) k)) (rw (le-leb (dimension s) limit k)) D
 
   module _ (route : ℕ) (q : Refusal) where
     abbrev after : Placement
-    after = after_refusal (dimension s) route limit y q.number q.place
+    after = after_refusal (dimension s) route limit y q
 
-    pub back-second : route ≡ 2 → Routed s (work_length s route limit) after l l (Failed q)
+    pub back-second : route ≡ 2 → Routed s (work_length s route limit) after l l (Err q)
     back-second h = same s _ _ l _ (rw (eq-eqb route 2 h))
 
-    pub back-over : (route ≡ 2 → ⊥) → limit < dimension s → Routed s (work_length s route limit) after l l (Failed q)
+    pub back-over : (route ≡ 2 → ⊥) → limit < dimension s → Routed s (work_length s route limit) after l l (Err q)
     back-over g h = same s _ _ l _ (rw (ne_eqb route 2 g, lt-leb (dimension s) limit h))
 
-    pub back-dense : (l' : List Float) (r : Ended) → RouteReady s a route limit (length l) → (route ≡ 2 → ⊥) → dimension s ≤ limit → Routed s (work_end s (dimension s)) (by_dense 3 y) l l' r →
+    pub back-dense : (l' : List Float) (r : Result Finish Refusal) → RouteReady s a route limit (length l) → (route ≡ 2 → ⊥) → dimension s ≤ limit → Routed s (work_end s (dimension s)) (by_dense 3 y) l l' r →
         Routed s (work_length s route limit) after l l' r
     back-dense l' r R g h D = renamed s _ _ _ _ l l' r (sym (dense-end s route limit R.legal g h)) (rw (ne_eqb route 2 g, le-leb (dimension s) limit h)) D
 
 -- ---- iterative
 
 -- the definition's answer where the method refuses, and where it places the cameras
-ending-refused : (x : Ending) (k i : ℕ) → answer_of x ≡ iterative.Failed k i → x ≡ refused k i
-ending-refused (accepted t) k i e = let z : ◌≡◌ {A = ℕ} 0 1 = cc in absurd (omega arith)
-ending-refused (refused j p) k i e = let u : j ≡ k = cc in let v : p ≡ i = cc in ap₂ refused u v
+ending-refused : (x : Ending) (q : Refusal) → answer_of x ≡ Err q → x ≡ refused q
+ending-refused (accepted t) q e = let z : ◌≡◌ {A = ℕ} 0 1 = cc in absurd (omega arith)
+ending-refused (refused r) q e = let u : r ≡ q = cc in ap refused u
 
-ending-placed : (P : Problem) (x : Ending) (k : ℕ) (f : ℕ → ℕ → Placement) (cs : List Vec3) → solution P ≡ x → answer_of x ≡ iterative.Placed k →
+ending-placed : (P : Problem) (x : Ending) (k : ℕ) (f : Refusal → Placement) (cs : List Vec3) → solution P ≡ x → answer_of x ≡ Ok k →
     ((t : State) → solution P ≡ accepted t → cs ≡ t.positions) → placed 2 k cs ≡ by_iterative x f
 ending-placed P (accepted t) k f cs q e h = let u : k ≡ t.round.count = cc in ap₂ (placed 2) u (h t q)
-ending-placed P (refused j p) k f cs q e h = let z : ◌≡◌ {A = ℕ} 0 1 = cc in absurd (omega arith)
+ending-placed P (refused r) k f cs q e h = let z : ◌≡◌ {A = ℕ} 0 1 = cc in absurd (omega arith)
 
-module _ (s : Shape) (ends offsets listed : List ℕ) (a route limit : ℕ) (l l1 : List Float) (o : Outcome)
+module _ (s : Shape) (ends offsets listed : List ℕ) (a route limit : ℕ) (l l1 : List Float) (o : Result ℕ Refusal)
     (S : IterativeSolved s (problem_by (links s ends offsets listed) (weights_in s l) (load term l 0 s.cameras) a) l l1 o) where
   abbrev result : Placement
   result = by_iterative (iterative_in (links s ends offsets listed) a l) (after_refusal (dimension s) route limit (dense_in (links s ends offsets listed) a l))
@@ -141,7 +139,7 @@ module _ (s : Shape) (ends offsets listed : List ℕ) (a route limit : ℕ) (l l
   pub ready-after : RouteReady s a route limit (length l) → RouteReady s a route limit (length l1)
   ready-after R = record { anchor = R.anchor; legal = R.legal; room = rw S.outside.size R.room }
 
-  pub iterative-placed : (k : ℕ) → o ≡ iterative.Placed k → Routed s (work_length s route limit) result l l1 (Placed 2 k)
+  pub iterative-placed : (k : ℕ) → o ≡ Ok k → Routed s (work_length s route limit) result l l1 (Ok (record { route = 2; rounds = k }))
   iterative-placed k e = record {
     answer = ending-placed _ (iterative_in (links s ends offsets listed) a l) k _ (positions_in s l1) refl (sym S.answer ∙ e) S.positions;
     segments = λ w ts. segments-outside s w ts l l1 S.outside;
@@ -149,11 +147,11 @@ module _ (s : Shape) (ends offsets listed : List ℕ) (a route limit : ℕ) (l l
     size = S.outside.size;
   }
 
-  pub iterative-failed : (k i : ℕ) (l2 : List Float) (r : Ended) → o ≡ iterative.Failed k i →
-      Routed s (work_length s route limit) (after_refusal (dimension s) route limit (dense_in (links s ends offsets listed) a l1) k i) l1 l2 r →
+  pub iterative-failed : (q : Refusal) (l2 : List Float) (r : Result Finish Refusal) → o ≡ Err q →
+      Routed s (work_length s route limit) (after_refusal (dimension s) route limit (dense_in (links s ends offsets listed) a l1) q) l1 l2 r →
       Routed s (work_length s route limit) result l l2 r
-  iterative-failed k i l2 r e R =
-      let x : iterative_in (links s ends offsets listed) a l ≡ refused k i = ending-refused _ k i (sym S.answer ∙ e) in
+  iterative-failed q l2 r e R =
+      let x : iterative_in (links s ends offsets listed) a l ≡ refused q = ending-refused _ q (sym S.answer ∙ e) in
       let w = weights-kept s l l1 S.outside.rest in
       record {
         answer = R.answer ∙ rw (x, w, S.outside.terms);
@@ -168,10 +166,10 @@ no-fourth : (k limit : ℕ) → bad_route (suc (suc (suc (suc k)))) limit ≡ tr
 unfolding bad_route
 no-fourth k limit = rw (le-ltb (suc (suc (suc (suc k)))) 1 (omega arith), lt-ltb 3 (suc (suc (suc (suc k)))) (omega arith))
 
-module _ (d limit : ℕ) (x : Ending) (y : Result (List Vec3)) where
+module _ (d limit : ℕ) (x : Ending) (y : Result (List Vec3) Breakdown) where
   -- what holds of the three routes holds of a route that 8 does not refuse
-  pub route-cases : (P : Placement → Type 0) (route : ℕ) → bad_route route limit ≡ false → P (dense_or (leb d limit) 1 y (failing_at 14 d)) →
-      P (by_iterative x failing_at) → P (by_iterative x (fall_back d limit y)) → P (routed_by d route limit x y)
+  pub route-cases : (P : Placement → Type 0) (route : ℕ) → bad_route route limit ≡ false → P (dense_or (leb d limit) 1 y (failing_at Dimension d)) →
+      P (by_iterative x failing) → P (by_iterative x (fall_back d limit y)) → P (routed_by d route limit x y)
   unfolding routed_by bad_route
   route-cases P zero e p q r = absurd (true≢false e)
   route-cases P (suc zero) e p q r = p
@@ -179,19 +177,19 @@ module _ (d limit : ℕ) (x : Ending) (y : Result (List Vec3)) where
   route-cases P (suc (suc (suc zero))) e p q r = r
   route-cases P (suc (suc (suc (suc k)))) e p q r = absurd (true≢false (sym (no-fourth k limit) ∙ e))
 
-iterative-route : (d limit : ℕ) (x : Ending) (y : Result (List Vec3)) (route : ℕ) → bad_route route limit ≡ false → (route ≡ 1 → ⊥) →
+iterative-route : (d limit : ℕ) (x : Ending) (y : Result (List Vec3) Breakdown) (route : ℕ) → bad_route route limit ≡ false → (route ≡ 1 → ⊥) →
     by_iterative x (after_refusal d route limit y) ≡ routed_by d route limit x y
 unfolding routed_by bad_route
 iterative-route d limit x y zero e h = absurd (true≢false e)
 iterative-route d limit x y (suc zero) e h = absurd (h refl)
 iterative-route d limit (accepted s) y (suc (suc zero)) e h = refl
-iterative-route d limit (refused k i) y (suc (suc zero)) e h = refl
+iterative-route d limit (refused r) y (suc (suc zero)) e h = refl
 iterative-route d limit (accepted s) y (suc (suc (suc zero))) e h = refl
-iterative-route d limit (refused k i) y (suc (suc (suc zero))) e h = refl
+iterative-route d limit (refused r) y (suc (suc (suc zero))) e h = refl
 iterative-route d limit x y (suc (suc (suc (suc k)))) e h = absurd (true≢false (sym (no-fourth k limit) ∙ e))
 
-module _ (s : Shape) (a route limit : ℕ) (x : Ending) (y : Result (List Vec3)) (l l' : List Float) (r : Ended) where
-  pub route-first : route ≡ 1 → Routed s (work_length s 1 limit) (dense_or (leb (dimension s) limit) 1 y (failing_at 14 (dimension s))) l l' r →
+module _ (s : Shape) (a route limit : ℕ) (x : Ending) (y : Result (List Vec3) Breakdown) (l l' : List Float) (r : Result Finish Refusal) where
+  pub route-first : route ≡ 1 → Routed s (work_length s 1 limit) (dense_or (leb (dimension s) limit) 1 y (failing_at Dimension (dimension s))) l l' r →
       Routed s (work_length s route limit) (routed_by (dimension s) route limit x y) l l' r
   unfolding routed_by
   route-first e R = renamed s _ _ _ _ l l' r (rw e) (rw (eq-eqb route 1 e)) R

@@ -1,9 +1,11 @@
 -- The routes of a solve (document 01, 'Size and domain': 'Routes'), and how a solve ends.
+use Rattle.network.specs.declared.Cause.{Cause}
+use Rattle.network.specs.declared.Cause.TheVariants as cause
+use Rattle.std.specs.Prelude.{Err, Ok, Result}
 use Rattle.std.specs.Prelude.{ℕ, ◌-◌, ◌*◌, List, [], ◌++◌, Bool, cond, ◌&&◌, eqb, leb}
 use Rattle.field.specs.declared.Vec3.{Vec3}
 use Rattle.network.specs.declared.Refusal.{Refusal}
-use Rattle.network.specs.declared.Verdict.{Verdict}
-use Rattle.network.specs.declared.Verdict.TheVariants.{Refused, Passed}
+use Rattle.network.specs.Refusals.{Verdict}
 use Rattle.network.specs.Network.{Network}
 use Rattle.network.specs.declared.Shape.{Shape}
 use Rattle.network.specs.Refusals.{verdict, count_tests, length_tests, early_tests, network_fits, network_row_tests, route_tests}
@@ -12,7 +14,8 @@ use Rattle.system.specs.Counts.{few}
 use Rattle.system.specs.Work.{work_length}
 use Rattle.iterative.specs.Method.{Ending, accepted, refused, solution}
 use Rattle.iterative.specs.Reduced.{problem}
-use Rattle.cholesky.specs.Cholesky.{Result, done, stopped}
+use Rattle.cholesky.specs.declared.Breakdown.{Breakdown}
+use Rattle.cholesky.specs.declared.Breakdown.TheVariants as breakdown
 use Rattle.dense.specs.Dense.{dense_solution}
 use Rattle.placement.specs.declared.Report.{Report}
 
@@ -41,38 +44,44 @@ pub data Placement : Type 0 where
 abbrev pub report : Network → ℕ → ℕ → Report
 report net route rounds = record { anchor = anchor net; route = route; rounds = rounds; few = few net }
 
-abbrev pub failing_at : ℕ → ℕ → Placement
-failing_at k p = failing (record { number = k; place = p })
+abbrev pub failing_at : Cause → ℕ → Placement
+failing_at k p = failing (record { cause = k; place = p })
 
-abbrev pub rejected_at : ℕ → ℕ → Placement
-rejected_at k p = rejected (record { number = k; place = p })
+abbrev pub rejected_at : Cause → ℕ → Placement
+rejected_at k p = rejected (record { cause = k; place = p })
+
+-- 15 to 17: where the dense solve breaks down
+abbrev pub broken : Breakdown → Refusal
+broken (breakdown.Pivot i) = record { cause = cause.Pivot; place = i }
+broken (breakdown.Factor i) = record { cause = cause.Factor; place = i }
+broken (breakdown.Solution i) = record { cause = cause.Solution; place = i }
 
 -- dense as route r: the cameras, after no round, or 15 to 17
-abbrev pub by_dense : ℕ → Result (List Vec3) → Placement
-by_dense r (done cameras) = placed r 0 cameras
-by_dense r (stopped k i) = failing_at k i
+abbrev pub by_dense : ℕ → Result (List Vec3) Breakdown → Placement
+by_dense r (Ok cameras) = placed r 0 cameras
+by_dense r (Err b) = failing (broken b)
 
 -- dense where n - 1 is within the limit, else x
-abbrev pub dense_or : Bool → ℕ → Result (List Vec3) → Placement → Placement
+abbrev pub dense_or : Bool → ℕ → Result (List Vec3) Breakdown → Placement → Placement
 dense_or within r y x = cond within (by_dense r y) x
 
 -- the iterative answer, or what follows its refusal
-abbrev pub by_iterative : Ending → (ℕ → ℕ → Placement) → Placement
+abbrev pub by_iterative : Ending → (Refusal → Placement) → Placement
 by_iterative (accepted s) f = placed 2 s.round.count s.positions
-by_iterative (refused k i) f = f k i
+by_iterative (refused r) f = f r
 
 -- what follows on route 3: dense within the limit, else that refusal
-abbrev pub fall_back : ℕ → ℕ → Result (List Vec3) → ℕ → ℕ → Placement
-fall_back d limit y k i = dense_or (leb d limit) 3 y (failing_at k i)
+abbrev pub fall_back : ℕ → ℕ → Result (List Vec3) Breakdown → Refusal → Placement
+fall_back d limit y r = dense_or (leb d limit) 3 y (failing r)
 
 -- '1 dense; 2 iterative; 3 iterative, then dense if that refused and n-1 is within the dense limit': the route, with d = n - 1 dense
 -- rows, and the answers x of the iterative and y of the dense solve. Route 1 over the limit is 14 at d. No other number is a route: 8.
-unfoldable pub routed_by : ℕ → ℕ → ℕ → Ending → Result (List Vec3) → Placement
+unfoldable pub routed_by : ℕ → ℕ → ℕ → Ending → Result (List Vec3) Breakdown → Placement
 routed_by d route limit x y =
-    cond (eqb route 1) (dense_or (leb d limit) 1 y (failing_at 14 d))
-    (cond (eqb route 2) (by_iterative x failing_at)
+    cond (eqb route 1) (dense_or (leb d limit) 1 y (failing_at cause.Dimension d))
+    (cond (eqb route 2) (by_iterative x failing)
     (cond (eqb route 3) (by_iterative x (fall_back d limit y))
-    (rejected_at 8 0)))
+    (rejected_at cause.Route 0)))
 
 unfoldable pub routed : Network → ℕ → ℕ → Placement
 routed net route limit = routed_by (net.shape.cameras - 1) route limit (solution (problem net)) (dense_solution net)
@@ -102,8 +111,8 @@ abbrev pub early_verdict : Submission → Verdict
 early_verdict i = verdict (early_tests i.net.shape (lent_fits i) i.net.ends)
 
 abbrev pub checked : Verdict → Placement → Placement
-checked (Refused r) p = rejected r
-checked Passed p = p
+checked (Err r) p = rejected r
+checked (Ok tt) p = p
 
 -- how the submission ends: checks 1 to 8, then the route
 unfoldable pub placement : Submission → Placement

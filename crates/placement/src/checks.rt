@@ -5,10 +5,9 @@ ghost use Rattle.network.specs.Refusals.{end_tests, length_tests, marks_after, n
 ghost use Rattle.network.specs.inner.Sound.{NetworkLengths, ShapeSound};
 ghost use Rattle.placement.specs.Routes.{buffers_fit, early_verdict, submission, submission_verdict};
 
-use network::answers::both;
 use network::lengths::{check_lengths, network_fits};
 use network::route::check_route;
-use network::{Shape, Verdict, check_counts, check_network_rows};
+use network::{Refusal, Shape, check_counts, check_network_rows};
 use system::work::work_needed;
 
 // 3: the lengths of the marks, the outputs and the work buffer.
@@ -24,9 +23,10 @@ fn buffers_fit(
     requires { ShapeSound s }
     ensures { result ≡ buffers_fit s marks route limit work cameras placed }
 {
-    let room = work_needed(s, route, limit) <= work;
-    let outputs = both(cameras == 3 * s.cameras, both(placed == 3 * s.points, room));
-    both(marks == s.bearings, outputs)
+    (marks == s.bearings)
+        & (cameras == 3 * s.cameras)
+        & (placed == 3 * s.points)
+        & (work_needed(s, route, limit) <= work)
 }
 
 // 3, of every slice that the call is lent.
@@ -45,7 +45,7 @@ fn check_all_lengths(
     work: usize,
     cameras: usize,
     placed: usize,
-) -> Verdict
+) -> Result<(), Refusal>
     requires { ShapeSound s }
     ensures { result ≡ verdict (length_tests (network_fits
         (network s ends.now rays.now weights.now scales.now points.now
@@ -54,7 +54,7 @@ fn check_all_lengths(
 {
     let network_ok = network_fits(s, ends, rays, weights, scales, points, offsets, listed);
     let buffers_ok = buffers_fit(s, marks, route, limit, work, cameras, placed);
-    check_lengths(both(network_ok, buffers_ok))
+    check_lengths(network_ok & buffers_ok)
 }
 
 // 4 to 8. Once 6 has been tested, the marks are all zero.
@@ -70,7 +70,7 @@ fn check_rows(
     marks: &mut [usize],
     route: usize,
     limit: usize,
-) -> Verdict
+) -> Result<(), Refusal>
     requires shape_sound { ShapeSound s }
     requires network_lengths { NetworkLengths (network s ends.now rays.now weights.now scales.now points.now offsets.now listed.now) }
     requires marks_len { length marks.old ≡ s.bearings }
@@ -80,12 +80,9 @@ fn check_rows(
         [] ++ route_tests route limit) }
     ensures marks_after { marks.new ≡ marks_after (verdict (end_tests s ends.now)) s.bearings marks.old }
 {
-    let rows = check_network_rows(
+    check_network_rows(
         s, ends, rays, weights, scales, points, offsets, listed, marks,
-    );
-    if let Verdict::Refused(r) = rows {
-        return Verdict::Refused(r);
-    }
+    )?;
     check_route(route, limit)
 }
 
@@ -105,7 +102,7 @@ pub(crate) fn check(
     work: usize,
     cameras: usize,
     placed: usize,
-) -> Verdict
+) -> Result<(), Refusal>
     ensures value { result ≡ submission_verdict (submission
         (network s ends.now rays.now weights.now scales.now points.now
         offsets.now listed.now)
@@ -115,11 +112,8 @@ pub(crate) fn check(
         offsets.now listed.now)
         (length marks.old) route limit work cameras placed)) s.bearings marks.old }
 {
-    let counts = check_counts(s);
-    if let Verdict::Refused(r) = counts {
-        return Verdict::Refused(r);
-    }
-    let lengths = check_all_lengths(
+    check_counts(s)?;
+    check_all_lengths(
         s,
         ends,
         rays,
@@ -134,10 +128,7 @@ pub(crate) fn check(
         work,
         cameras,
         placed,
-    );
-    if let Verdict::Refused(r) = lengths {
-        return Verdict::Refused(r);
-    }
+    )?;
     check_rows(
         s, ends, rays, weights, scales, points, offsets, listed, marks, route, limit,
     )

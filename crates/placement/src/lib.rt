@@ -17,9 +17,9 @@ ghost use Rattle.placement.specs.Solved.{Solved};
 
 use checks::check;
 use field::{clear, copy3};
-use network::{Refusal, Shape, Verdict};
+use network::{Refusal, Shape};
 use recover::recover_points;
-use routes::{Ended, go};
+use routes::{Finish, go};
 use system::form;
 use system::reads::count_few;
 use system::work::{positions_at, work_needed};
@@ -32,12 +32,6 @@ pub struct Report {
     pub route: usize,
     pub rounds: usize,
     pub few: usize,
-}
-
-#[derive(Clone, Copy)]
-pub enum Answer {
-    Refused(Refusal),
-    Accepted(Report),
 }
 
 // Fills the outputs from the cameras in the work buffer.
@@ -71,20 +65,23 @@ fn fill(
 }
 
 // The answer, with what the system in the work buffer tells besides: the anchor and few.
-fn answered(s: Shape, anchor: usize, ended: Ended, work: &[f64]) -> Answer
+fn answered(
+    s: Shape,
+    anchor: usize,
+    ended: Result<Finish, Refusal>,
+    work: &[f64],
+) -> Result<Report, Refusal>
     requires shape_sound { ShapeSound s }
     requires s_in_bounds { matrix_at s ≤ length work.now }
     ensures { result ≡ reported anchor (few_in (load term work.now 0 s.cameras) s.cameras) ended }
 {
-    match ended {
-        Ended::Failed(refusal) => Answer::Refused(refusal),
-        Ended::Placed { route, rounds } => Answer::Accepted(Report {
-            anchor: anchor,
-            route: route,
-            rounds: rounds,
-            few: count_few(work, s.cameras),
-        }),
-    }
+    let finish = ended?;
+    Ok(Report {
+        anchor: anchor,
+        route: finish.route,
+        rounds: finish.rounds,
+        few: count_few(work, s.cameras),
+    })
 }
 
 // Forms the system and goes the route.
@@ -100,7 +97,7 @@ fn run(
     route: usize,
     limit: usize,
     work: &mut [f64],
-) -> Answer
+) -> Result<Report, Refusal>
     requires { Checked (network s ends.now rays.now weights.now scales.now points.now offsets.now listed.now)
         route limit (length work.old) }
     ensures { Ran (network s ends.now rays.now weights.now scales.now points.now
@@ -127,7 +124,7 @@ fn place(
     work: &mut [f64],
     cameras: &mut [f64],
     placed: &mut [f64],
-) -> Answer
+) -> Result<Report, Refusal>
     requires checked { Checked (network s ends.now rays.now weights.now scales.now points.now offsets.now listed.now)
         route limit (length work.old) }
     requires cameras_len { (length cameras.old ≡ 3 * s.cameras) × (length placed.old ≡ 3 * s.points) }
@@ -137,16 +134,13 @@ fn place(
         route limit result work.old work.new cameras.old cameras.new
         placed.old placed.new }
 {
-    let answer = run(
+    let report = run(
         s, ends, rays, weights, scales, points, offsets, listed, route, limit, work,
+    )?;
+    fill(
+        s, ends, rays, weights, scales, points, offsets, listed, work, cameras, placed,
     );
-    if let Answer::Accepted(report) = answer {
-        fill(
-            s, ends, rays, weights, scales, points, offsets, listed, work, cameras, placed,
-        );
-        return Answer::Accepted(report);
-    }
-    answer
+    Ok(report)
 }
 
 // The solve. Bad input is refused, and nothing but the marks is changed; otherwise the needed part of the work buffer ends all zero. The marks end
@@ -166,7 +160,7 @@ pub fn solve(
     work: &mut [f64],
     cameras: &mut [f64],
     placed: &mut [f64],
-) -> Answer
+) -> Result<Report, Refusal>
     ensures { Solved (submission
         (network s ends.now rays.now weights.now scales.now points.now
         offsets.now listed.now)
@@ -174,7 +168,7 @@ pub fn solve(
         result marks.old marks.new work.old work.new
         cameras.old cameras.new placed.old placed.new }
 {
-    let verdict = check(
+    check(
         s,
         ends,
         rays,
@@ -189,14 +183,11 @@ pub fn solve(
         work.len(),
         cameras.len(),
         placed.len(),
-    );
-    if let Verdict::Refused(r) = verdict {
-        return Answer::Refused(r);
-    }
+    )?;
     let answer = place(
         s, ends, rays, weights, scales, points, offsets, listed, route, limit, work, cameras,
         placed,
     );
-    clear(work, work_needed(s, route, limit));
+    clear(work, work_needed(s, route, limit), 0.0);
     answer
 }

@@ -1,22 +1,43 @@
 // The routes, over the system that is formed in the work buffer.
-ghost use Rattle.std.specs.Prelude.{◌≤◌, ◌<◌, leb, length};
+ghost use Rattle.std.specs.Prelude.{◌≡◌, ◌≤◌, ◌<◌, leb, length};
 ghost use Rattle.network.specs.Network.{links};
 ghost use Rattle.network.specs.inner.Sound.{LinksSound};
 ghost use Rattle.system.specs.Work.{work_end, work_length};
 ghost use Rattle.dense.specs.Dense.{dimension};
-ghost use Rattle.placement.specs.Routes.{by_dense, by_iterative, dense_or, failing_at, routed_by};
+ghost use Rattle.network.specs.declared.Cause.TheVariants.{Dimension};
+ghost use Rattle.placement.specs.Routes.{broken, by_dense, by_iterative, dense_or, failing_at, routed_by};
 ghost use Rattle.placement.specs.inner.Routing.{RouteReady, Routed, after_refusal, dense_in, iterative_in};
 
-use cholesky::Solve;
+use cholesky::Breakdown;
 use dense::solve_dense;
-use iterative::{Outcome, solve_iterative};
-use network::{Refusal, Shape};
+use iterative::solve_iterative;
+use network::{Cause, Refusal, Shape};
 
-// How a route ends: with a refusal, or with the answering route and its rounds.
+// How a route that is not refused ends: the answering route and its rounds.
 #[derive(Clone, Copy)]
-pub(crate) enum Ended {
-    Failed(Refusal),
-    Placed { route: usize, rounds: usize },
+pub(crate) struct Finish {
+    pub(crate) route: usize,
+    pub(crate) rounds: usize,
+}
+
+// The refusal of a dense solve that breaks down.
+fn refusal(breakdown: Breakdown) -> Refusal
+    ensures { result ≡ broken breakdown }
+{
+    match breakdown {
+        Breakdown::Pivot(row) => Refusal {
+            cause: Cause::Pivot,
+            place: row,
+        },
+        Breakdown::Factor(row) => Refusal {
+            cause: Cause::Factor,
+            place: row,
+        },
+        Breakdown::Solution(row) => Refusal {
+            cause: Cause::Solution,
+            place: row,
+        },
+    }
 }
 
 // Dense, answering as the route that is named.
@@ -28,23 +49,19 @@ fn go_dense(
     anchor: usize,
     route: usize,
     work: &mut [f64],
-) -> Ended
+) -> Result<Finish, Refusal>
     requires links_sound { LinksSound (links s ends.now offsets.now listed.now) }
     requires anchor_lt_cameras { (anchor < s.cameras) × (work_end s (dimension s) ≤ length work.old) }
     ensures { Routed s (work_end s (dimension s))
         (by_dense route (dense_in (links s ends.now offsets.now listed.now) anchor work.old))
         work.old work.new result }
 {
-    let solve = solve_dense(s, ends, offsets, listed, anchor, work);
-    match solve {
-        Solve::Done => Ended::Placed {
+    match solve_dense(s, ends, offsets, listed, anchor, work) {
+        Ok(()) => Ok(Finish {
             route: route,
             rounds: 0,
-        },
-        Solve::Stopped { number, row } => Ended::Failed(Refusal {
-            number: number,
-            place: row,
         }),
+        Err(breakdown) => Err(refusal(breakdown)),
     }
 }
 
@@ -57,17 +74,17 @@ fn go_first(
     limit: usize,
     anchor: usize,
     work: &mut [f64],
-) -> Ended
+) -> Result<Finish, Refusal>
     requires links_sound { LinksSound (links s ends.now offsets.now listed.now) }
     requires route_ready { RouteReady s anchor 1 limit (length work.old) }
     ensures { Routed s (work_length s 1 limit) (dense_or (leb (dimension s) limit) 1
         (dense_in (links s ends.now offsets.now listed.now) anchor work.old)
-        (failing_at 14 (dimension s))) work.old work.new result }
+        (failing_at Dimension (dimension s))) work.old work.new result }
 {
     let d = s.cameras - 1;
     if d > limit {
-        return Ended::Failed(Refusal {
-            number: 14,
+        return Err(Refusal {
+            cause: Cause::Dimension,
             place: d,
         });
     }
@@ -85,18 +102,18 @@ fn fall_back(
     anchor: usize,
     refusal: Refusal,
     work: &mut [f64],
-) -> Ended
+) -> Result<Finish, Refusal>
     requires links_sound { LinksSound (links s ends.now offsets.now listed.now) }
     requires route_ready { RouteReady s anchor route limit (length work.old) }
     ensures { Routed s (work_length s route limit) (after_refusal (dimension s) route limit
         (dense_in (links s ends.now offsets.now listed.now) anchor work.old)
-        refusal.number refusal.place) work.old work.new result }
+        refusal) work.old work.new result }
 {
     if route == 2 {
-        return Ended::Failed(refusal);
+        return Err(refusal);
     }
     if s.cameras - 1 > limit {
-        return Ended::Failed(refusal);
+        return Err(refusal);
     }
     go_dense(s, ends, offsets, listed, anchor, 3, work)
 }
@@ -111,7 +128,7 @@ fn go_iterative(
     limit: usize,
     anchor: usize,
     work: &mut [f64],
-) -> Ended
+) -> Result<Finish, Refusal>
     requires links_sound { LinksSound (links s ends.now offsets.now listed.now) }
     requires route_ready { RouteReady s anchor route limit (length work.old) }
     ensures { Routed s (work_length s route limit) (by_iterative
@@ -120,25 +137,13 @@ fn go_iterative(
         (dense_in (links s ends.now offsets.now listed.now) anchor work.old)))
         work.old work.new result }
 {
-    let outcome = solve_iterative(s, ends, offsets, listed, anchor, work);
-    match outcome {
-        Outcome::Placed(rounds) => Ended::Placed {
+    match solve_iterative(s, ends, offsets, listed, anchor, work) {
+        Ok(rounds) => Ok(Finish {
             route: 2,
             rounds: rounds,
-        },
-        Outcome::Failed { number, place } => fall_back(
-            s,
-            ends,
-            offsets,
-            listed,
-            route,
-            limit,
-            anchor,
-            Refusal {
-                number: number,
-                place: place,
-            },
-            work,
+        }),
+        Err(refusal) => fall_back(
+            s, ends, offsets, listed, route, limit, anchor, refusal, work,
         ),
     }
 }
@@ -153,7 +158,7 @@ pub(crate) fn go(
     limit: usize,
     anchor: usize,
     work: &mut [f64],
-) -> Ended
+) -> Result<Finish, Refusal>
     requires links_sound { LinksSound (links s ends.now offsets.now listed.now) }
     requires route_ready { RouteReady s anchor route limit (length work.old) }
     ensures { Routed s (work_length s route limit) (routed_by (dimension s) route limit

@@ -1,29 +1,20 @@
 // Lines of numbers.
-ghost use Rattle.std.specs.Prelude.{◌≡◌, ◌&&◌, eqb, set};
+ghost use Rattle.std.specs.Prelude.{◌≡◌, set};
 ghost use Rattle.std.specs.Float.{binary64};
 ghost use Rattle.std.specs.Float.Ieee.{of_bits};
 ghost use Rattle.records.specs.Records.{WholesRead, RealsRead, wholes_compared, reals_compared};
 
-use crate::parts::span;
 use crate::text::{decimal, hex, keyword, step};
 use double::Decoded;
 
 // The place after a list, and whether its numbers are those that they were compared with.
 #[derive(Clone, Copy)]
 pub struct Found {
-    pub next: usize,
+    pub next: Option<usize>,
     pub same: bool,
 }
 
-fn put_whole(into: &mut [usize], place: usize, value: usize)
-    ensures { into.new ≡ set into.old place value }
-{
-    if place < into.len() {
-        into[place] = value;
-    }
-}
-
-fn put_real(into: &mut [f64], place: usize, value: f64)
+fn put<T: Copy>(into: &mut [T], place: usize, value: T)
     ensures { into.new ≡ set into.old place value }
 {
     if place < into.len() {
@@ -45,22 +36,19 @@ fn real(bits: usize) -> f64
 // A line of decimal numbers, put at the places from `from` up to `to`.
 pub fn read_wholes(
     input: &[u8],
-    at: usize,
+    at: Option<usize>,
     word: &[u8],
     into: &mut [usize],
     from: usize,
     to: usize,
-) -> usize
+) -> Option<usize>
     ensures { WholesRead input.now at word.now into.old into.new from to result }
 {
-    let n = span(from, to);
     let mut next = keyword(input, at, word);
-    let mut i = 0usize;
-    while i < n {
+    for place in from..to {
         let whole = decimal(input, next);
-        put_whole(into, from + i, whole.value);
+        put(into, place, whole.value);
         next = whole.next;
-        i += 1;
     }
     step(input, next, b'\n')
 }
@@ -68,45 +56,33 @@ pub fn read_wholes(
 // A line of doubles, put at the places from `from` up to `to`.
 pub fn read_reals(
     input: &[u8],
-    at: usize,
+    at: Option<usize>,
     word: &[u8],
     into: &mut [f64],
     from: usize,
     to: usize,
-) -> usize
+) -> Option<usize>
     ensures { RealsRead input.now at word.now into.old into.new from to result }
 {
-    let n = span(from, to);
     let mut next = keyword(input, at, word);
-    let mut i = 0usize;
-    while i < n {
+    for place in from..to {
         let bits = hex(input, next);
-        put_real(into, from + i, real(bits.value));
+        put(into, place, real(bits.value));
         next = bits.next;
-        i += 1;
     }
     step(input, next, b'\n')
 }
 
-// Whether the numbers so far agree, and one more.
-fn agree(same: bool, x: usize, y: usize) -> bool
-    ensures { result ≡ (same && eqb x y) }
-{
-    same && x == y
-}
-
 // The rest of a line of decimal numbers, compared with some.
-pub fn same_wholes(input: &[u8], at: usize, numbers: &[usize]) -> Found
+pub fn same_wholes(input: &[u8], at: Option<usize>, numbers: &[usize]) -> Found
     ensures { result ≡ wholes_compared input.now at numbers.now }
 {
     let mut next = at;
     let mut same = true;
-    let mut i = 0usize;
-    while i < numbers.len() {
+    for number in numbers {
         let whole = decimal(input, next);
-        same = agree(same, whole.value, numbers[i]);
+        same &= whole.value == *number;
         next = whole.next;
-        i += 1;
     }
     Found {
         next: step(input, next, b'\n'),
@@ -115,17 +91,15 @@ pub fn same_wholes(input: &[u8], at: usize, numbers: &[usize]) -> Found
 }
 
 // A line of doubles, compared bit for bit with some.
-pub fn same_reals(input: &[u8], at: usize, word: &[u8], numbers: &[f64]) -> Found
+pub fn same_reals(input: &[u8], at: Option<usize>, word: &[u8], numbers: &[f64]) -> Found
     ensures { result ≡ reals_compared input.now at word.now numbers.now }
 {
     let mut next = keyword(input, at, word);
     let mut same = true;
-    let mut i = 0usize;
-    while i < numbers.len() {
+    for number in numbers {
         let bits = hex(input, next);
-        same = agree(same, bits.value, double::to_bits(numbers[i]) as usize);
+        same &= bits.value == double::to_bits(*number) as usize;
         next = bits.next;
-        i += 1;
     }
     Found {
         next: step(input, next, b'\n'),

@@ -1,9 +1,10 @@
 -- Scales: the new scales as they are stored, and that every row's is. Assumes nothing.
-use Prim.Native.Nat.{ℕ, ◌+◌, ◌≤◌, ◌<◌}
+use Prim.Native.Nat.{ℕ, ◌+◌, ◌-◌, ◌≤◌, ◌<◌}
 use mathlib.Core.Path.{◌≡◌, refl, sym, ◌∙◌}
 use mathlib.Core.List.{List}
 use mathlib.Core.Bool.{Bool, true, false, cond}
 use native.Mathlib.Omega.{arith}
+use Rattle.std.proofs.Math.Nat.{sub_self}
 use lib.Dec.{ltb}
 use lib.ListN.{length, get_or, set}
 use lib.Ieee.{Float, nan, lt}
@@ -11,7 +12,7 @@ use borrow.Author.Tests.{lt-ltb, le-ltb, ltb-true, ltb-false}
 use Rattle.field.specs.declared.Vec3.{Vec3}
 use Rattle.network.specs.declared.Shape.{Shape}
 use Rattle.network.specs.declared.Span.{Span}
-use Rattle.network.specs.Network.{Network, network, links, rows, is_bearing, span_of}
+use Rattle.network.specs.Network.{Network, links_of, rows, is_bearing, span_of}
 use Rattle.network.specs.Lists.{named}
 use Rattle.network.specs.inner.Sound.{LinksSound}
 use Rattle.network.proofs.PointLists.{named_some}
@@ -27,12 +28,28 @@ pub list-more : (listed : List ℕ) (g : ℕ → Float) (f i r : ℕ) (l w w' : 
 unfolding listed_row
 list-more listed g f i r l w w' e h t = stored_more (listed_row listed) g f i r l w w' e h t
 
-pub directions-more : (s : Shape) (ends : List ℕ) (rays weights scales points : List Float) (cs : List Vec3) (i : ℕ) (keeps : Bool) (l w w' : List Float) → let b = s.bearings in
-    keeps ≡ direction_kept b (get_or weights (b + i) nan) → w ≡ stored_at own_row (direction_scale s ends rays weights scales points cs) b i l →
-    w' ≡ set w (b + i) (new_scale_in keeps s ends rays scales points cs (b + i)) → w' ≡ stored_at own_row (direction_scale s ends rays weights scales points cs) b (i + 1) l
-unfolding direction_scale own_row
-directions-more s ends rays weights scales points cs i keeps l w w' e h t =
-    stored_more own_row (direction_scale s ends rays weights scales points cs) s.bearings i (s.bearings + i) l w w' refl h (t ∙ rw e)
+module _ (net : Network) (cs : List Vec3) (l : List Float) where
+  abbrev b : ℕ
+  b = net.shape.bearings
+
+  abbrev own_scale : ℕ → Float
+  own_scale = direction_scale net.shape net.ends net.rays net.weights net.scales net.positions cs
+
+  -- the scales of the directions below row r, stored in l
+  abbrev directions_below : ℕ → List Float
+  directions_below r = stored_at own_row own_scale b (r - b) l
+
+  pub directions_none : l ≡ directions_below b
+  directions_none = rw sub_self (stored-none own_row _ b l)
+
+  pub directions-more : (r : ℕ) (keeps : Bool) (w w' : List Float) → b ≤ r →
+      keeps ≡ direction_kept b (get_or net.weights r nan) → w ≡ directions_below r →
+      w' ≡ set w r (new_scale_in keeps net.shape net.ends net.rays net.scales net.positions cs r) → w' ≡ directions_below (r + 1)
+  unfolding direction_scale own_row
+  directions-more r keeps w w' below e h t =
+      let i : b + (r - b) ≡ r = omega arith in
+      let k : r + 1 - b ≡ r - b + 1 = omega arith in
+      rw k (stored_more own_row own_scale b (r - b) r l w w' (sym i) h (t ∙ rw e))
 
 -- ---- of a network that was not refused
 
@@ -41,19 +58,25 @@ named-place : (listed : List ℕ) (r n : ℕ) → named listed r n ≡ 1 → Hit
 unfolding listed_row
 named-place listed r n e = let u = named_some listed r n (omega arith) in record { place = u.0; below = u.1; is = u.2 }
 
-module _ (s : Shape) (ends : List ℕ) (rays weights scales points : List Float) (offsets listed : List ℕ) (cs : List Vec3) where
-  abbrev net : Network
-  net = network s ends rays weights scales points offsets listed
+module _ (net : Network) (cs : List Vec3) where
+  abbrev s : Shape
+  s = net.shape
+
+  abbrev listed : List ℕ
+  listed = net.listed
+
+  abbrev offsets : List ℕ
+  offsets = net.offsets
 
   -- a direction's new scale is the network's
-  own-scale : (r : ℕ) → s.bearings ≤ r → direction_scale s ends rays weights scales points cs r ≡ new_scale net cs r
+  own-scale : (r : ℕ) → s.bearings ≤ r → direction_scale s net.ends net.rays net.weights net.scales net.positions cs r ≡ new_scale net cs r
   unfolding direction_scale new_scale kept_by_weight
   own-scale r h = rw (le-ltb _ _ h)
 
-  module _ (L : LinksSound (links s ends offsets listed)) where
+  module _ (L : LinksSound (links_of net)) where
     -- so is that of a bearing on point p, where W is p's
-    listed-scale : (p i : ℕ) (w : Float) → p < s.points → i < (span_of offsets p).size → w ≡ weight_sum (effective_in weights scales) listed (span_of offsets p) →
-        let r = listed_row listed ((span_of offsets p).first + i) in new_scale_in (lt w tiny) s ends rays scales points cs r ≡ new_scale net cs r
+    listed-scale : (p i : ℕ) (w : Float) → p < s.points → i < (span_of offsets p).size → w ≡ weight_sum (effective_in net.weights net.scales) listed (span_of offsets p) →
+        let r = listed_row listed ((span_of offsets p).first + i) in new_scale_in (lt w tiny) s net.ends net.rays net.scales net.positions cs r ≡ new_scale net cs r
     unfolding new_scale kept_by_weight sums_from listed_row
     listed-scale p i w h k e =
         let place : (span_of offsets p).first + i < s.bearings = omega (arith, L.offsets.rises p h, L.offsets.within (p + 1) (omega arith)) in
@@ -61,8 +84,8 @@ module _ (s : Shape) (ends : List ℕ) (rays weights scales points : List Float)
         rw (lt-ltb _ _ (L.listed.bearing _ place), own, ← e)
 
     pub point-stored : (p : ℕ) (k : Span) (w : Float) (l v : List Float) →
-        p < s.points → k ≡ span_of offsets p → w ≡ weight_sum (effective_in weights scales) listed k →
-        v ≡ stored_at (listed_row listed) (new_scale_in (lt w tiny) s ends rays scales points cs) k.first k.size l →
+        p < s.points → k ≡ span_of offsets p → w ≡ weight_sum (effective_in net.weights net.scales) listed k →
+        v ≡ stored_at (listed_row listed) (new_scale_in (lt w tiny) s net.ends net.rays net.scales net.positions cs) k.first k.size l →
         v ≡ stored_at (listed_row listed) (new_scale net cs) (span_of offsets p).first (span_of offsets p).size l
     point-stored p k w l v h ek ew ev =
         ev ∙ rw ek (stored-ext _ _ _ _ _ _ l (λ i b. refl) (λ i b. listed-scale p i w h b (ew ∙ rw ek)))
@@ -80,13 +103,6 @@ module _ (s : Shape) (ends : List ℕ) (rays weights scales points : List Float)
         let k = span_of offsets p in
         let q : k.first + k.size ≡ get_or offsets (p + 1) 0 = omega (arith, L.offsets.rises p h) in
         rw q at (stored-add _ _ k.first k.size l w w' e f)
-
-    pub points-ended : (p : ℕ) (l w : List Float) →
-        w ≡ stored_at (listed_row listed) (new_scale net cs) 0 (get_or offsets p 0) l → p ≤ s.points → s.points ≤ p →
-        w ≡ stored_at (listed_row listed) (new_scale net cs) 0 s.bearings l
-    points-ended p l w e a b =
-        let q : p ≡ s.points = omega arith in
-        e ∙ rw (q, L.offsets.end)
 
     -- ---- bearings where the lists name them, directions at their own places
 
@@ -111,7 +127,7 @@ module _ (s : Shape) (ends : List ℕ) (rays weights scales points : List Float)
 
     pub scales-stored : (l w w' : List Float) →
         length l ≡ rows s → w ≡ stored_at (listed_row listed) (new_scale net cs) 0 s.bearings l →
-        w' ≡ stored_at own_row (direction_scale s ends rays weights scales points cs) s.bearings s.directions w → w' ≡ scales_of net cs
+        w' ≡ stored_at own_row (direction_scale s net.ends net.rays net.weights net.scales net.positions cs) s.bearings s.directions w → w' ≡ scales_of net cs
     unfolding own_row
     scales-stored l w w' h e f =
         let b = s.bearings in

@@ -1,5 +1,5 @@
 -- Numbers that are stored row after row: a run of stores, the next run, and that every row is stored. Assumes nothing.
-use Prim.Native.Nat.{ℕ, zero, suc, ◌+◌, ◌≤◌, ◌<◌}
+use Prim.Native.Nat.{ℕ, zero, suc, ◌+◌, ◌<◌}
 use mathlib.Core.Path.{◌≡◌, refl, sym, ap, subst, ◌∙◌}
 use mathlib.Core.Logic.{⊎_elim}
 use mathlib.Core.List.{List}
@@ -32,9 +32,6 @@ module _ (row : ℕ → ℕ) (g : ℕ → Float) where
   pub stored_more : (f i r : ℕ) (l w w' : List Float) → r ≡ row (f + i) → w ≡ stored_at row g f i l → w' ≡ set w r (g r) → w' ≡ stored_at row g f (i + 1) l
   unfolding stored_at
   stored_more f i r l w w' e h t = t ∙ rw (add-one, upto-suc _ i l, ← e, ← h)
-
-  pub stored-ended : (f i n : ℕ) (l w : List Float) → w ≡ stored_at row g f i l → i ≤ n → n ≤ i → w ≡ stored_at row g f n l
-  stored-ended f i n l w e a b = let q : i ≡ n = omega arith in rw q at e
 
   from_zero : (k : ℕ) (l : List Float) → stored_at row g 0 k l ≡ upto (λ i t. set t (row i) (g (row i))) k l
   unfolding stored_at

@@ -1,10 +1,10 @@
 -- What a call of dots or scales is lent, and what it leaves (document 01: 'dots and scales fill B, then E numbers'; they use 1 to 7).
+use Rattle.std.specs.Prelude.{Err, Ok}
 use Rattle.std.specs.Prelude.{ℕ, List, [], ◌∷◌, ◌++◌, Bool, ◌&&◌, ◌≡◌, eqb, Float}
 use Rattle.field.specs.declared.Vec3.{Vec3}
 use Rattle.field.specs.Buffer.{vectors_in}
 use Rattle.network.specs.declared.Shape.{Shape}
-use Rattle.network.specs.declared.Verdict.{Verdict}
-use Rattle.network.specs.declared.Verdict.TheVariants.{Refused, Passed}
+use Rattle.network.specs.Refusals.{Verdict}
 use Rattle.network.specs.Network.{Network, rows}
 use Rattle.network.specs.Refusals.{verdict, count_tests, length_tests, early_tests, network_fits, vectors_fit, network_row_tests, marks_after}
 use Rattle.network.specs.Refusals.{section, bad_vector}
@@ -55,8 +55,8 @@ early_verdict i = verdict (early_tests i.net.shape (lent_fits i) i.net.ends)
 
 -- the output: untouched on a refusal, else filled whole
 abbrev pub filled : Verdict → List Float → List Float → List Float
-filled (Refused r) out xs = out
-filled Passed out xs = xs
+filled (Err r) out xs = out
+filled (Ok tt) out xs = xs
 
 -- What the call leaves: its answer, its output, and the marks (untouched where 1 to 5 refuse, else all zero); everything else is only read.
 pub record Filled (i : PlacedNetwork) (xs : List Float) (r : Verdict) (marks marks' : List ℕ) (out out' : List Float) : Type 0 where

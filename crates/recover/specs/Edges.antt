@@ -1,9 +1,9 @@
 -- Document 01, 'Values at the edges': its row on scales.
+use Rattle.std.specs.Prelude.{Ok}
 use Rattle.std.specs.Prelude.{ℕ, [], ◌∷◌, false, ◌≡◌, Float}
 use Rattle.std.specs.Float.{binary64}
 use Rattle.std.specs.Float.Ieee.{of_bits}
 use Rattle.field.specs.Vec.{null}
-use Rattle.network.specs.declared.Verdict.TheVariants.{Passed}
 use Rattle.system.specs.System.{one, two}
 use Rattle.system.specs.Edges.{directed, half}
 use Rattle.recover.specs.declared.Scale.{Scale}
@@ -23,7 +23,7 @@ baseline_case x = placed (directed one one) 0 (null ∷ null ∷ null ∷ x ∷ 
 abbrev pub GivesScale : Float → Scale → Type 0
 GivesScale x a =
     let i = baseline_case x in
-    (scale_answer i.net (cameras_of i) 0 ≡ a) × ((y : Float) → ScalesFilled i Passed [] [] (y ∷ []) (scale_number one a ∷ []))
+    (scale_answer i.net (cameras_of i) 0 ≡ a) × ((y : Float) → ScalesFilled i (Ok tt) [] [] (y ∷ []) (scale_number one a ∷ []))
 
 -- 'target x = 2 gives 0.5; -2 gives 1e-5; 2^-20 keeps; 2^-19 gives 524288'
 pub record ScaleEdges : Type 0 where

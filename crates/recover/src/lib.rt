@@ -8,24 +8,24 @@ mod rescale;
 mod row;
 
 ghost use Rattle.std.specs.Prelude.{◌≡◌, ◌*◌, ◌≤◌, length};
-ghost use Rattle.field.specs.Count.{field};
 ghost use Rattle.field.specs.Buffer.{flat, vector, vectors_in};
 ghost use Rattle.network.specs.Network.{network, links, rows};
-ghost use Rattle.network.specs.inner.Sound.{EndsSound, LinksSound};
+ghost use Rattle.network.specs.inner.Sound.{LinksSound};
 ghost use Rattle.system.specs.Work.{matrix_at};
 ghost use Rattle.system.specs.inner.Formed.{RowsThere, positions_in, weights_in};
 ghost use Rattle.recover.specs.Part.{marked, camera_part};
-ghost use Rattle.recover.specs.Recover.{points_by, dot_in};
+ghost use Rattle.recover.specs.Recover.{points_by, dots_of};
 ghost use Rattle.recover.specs.Calls.{placed, DotsFilled, ScalesFilled};
-ghost use Rattle.recover.specs.inner.Reads.{PositionsThere};
 
-use entry::check;
+use entry::enter;
 use field::put3;
-use network::{Shape, Verdict};
+use network::links::Links;
+use network::{Refusal, Shape};
 use part::{camera_part, marked_buffer};
 use point::recover_point;
 use rescale::fill_scales;
-use row::dot_row;
+use row::Sites;
+use system::numbers::Rows;
 
 // A scale answer: the old scale is kept, or it is renewed with a number.
 #[derive(Clone, Copy)]
@@ -62,37 +62,21 @@ pub fn recover_points(
         offsets.now listed.now)
         (weights_in s work.now) (positions_in s work.now)) }
 {
-    let m = s.points;
-    let mut p = 0usize;
-    while p < m {
-        let v = recover_point(
-            s, ends, rays, weights, scales, points, offsets, listed, work, p,
-        );
+    let links = Links::new(s, ends, offsets, listed);
+    let numbers = Rows::new(s, rays, weights, scales);
+    for p in 0..s.points {
+        let v = recover_point(&links, &numbers, points, work, p);
         put3(out, 3 * p, v);
-        p += 1;
     }
 }
 
 // The dot of each row: the Rust's `update_trial_dots`.
-fn fill_dots(
-    s: Shape,
-    ends: &[usize],
-    rays: &[f64],
-    points: &[f64],
-    cameras: &[f64],
-    out: &mut [f64],
-)
-    requires ends_sound { EndsSound s ends.now }
-    requires positions_there { PositionsThere s points.now cameras.now }
-    requires s_in_bounds { (3 * rows s ≤ length rays.now) × (length out.old ≡ rows s) }
-    ensures { out.new ≡ field (rows s)
-        (dot_in s ends.now rays.now points.now (vectors_in cameras.now)) }
+fn fill_dots(i: &Sites<'_>, out: &mut [f64])
+    requires { length out.old ≡ rows i.now.net.shape }
+    ensures { out.new ≡ dots_of i.now.net (vectors_in i.now.cameras) }
 {
-    let count = s.bearings + s.directions;
-    let mut r = 0usize;
-    while r < count {
-        out[r] = dot_row(s, ends, rays, points, cameras, r);
-        r += 1;
+    for (r, dot) in out.iter_mut().enumerate() {
+        *dot = i.dot(r);
     }
 }
 
@@ -111,7 +95,7 @@ pub fn dots<'a>(
     trial: &'a [f64],
     mark: bool,
     out: &mut [f64],
-) -> Verdict
+) -> Result<(), Refusal>
     ensures { DotsFilled (placed
         (network s ends.now rays.now weights.now scales.now points.now
         offsets.now listed.now)
@@ -119,23 +103,11 @@ pub fn dots<'a>(
         result marks.old marks.new out.old out.new }
 {
     let room = out.len();
-    let verdict = check(
+    let i = enter(
         s, ends, rays, weights, scales, points, offsets, listed, marks, current, trial, mark, room,
-    );
-    match verdict {
-        Verdict::Refused(r) => Verdict::Refused(r),
-        Verdict::Passed => {
-            fill_dots(
-                s,
-                ends,
-                rays,
-                points,
-                marked_buffer(current, trial, mark),
-                out,
-            );
-            Verdict::Passed
-        }
-    }
+    )?;
+    fill_dots(&i, out);
+    Ok(())
 }
 
 // The new scale of each row, bearings first; a kept one is the old: the Rust's `update_trial_scales`. Refusals 1 to 7.
@@ -153,7 +125,7 @@ pub fn scales<'a>(
     trial: &'a [f64],
     mark: bool,
     out: &mut [f64],
-) -> Verdict
+) -> Result<(), Refusal>
     ensures { ScalesFilled (placed
         (network s ends.now rays.now weights.now scales.now points.now
         offsets.now listed.now)
@@ -161,17 +133,9 @@ pub fn scales<'a>(
         result marks.old marks.new out.old out.new }
 {
     let room = out.len();
-    let verdict = check(
+    let i = enter(
         s, ends, rays, weights, scales, points, offsets, listed, marks, current, trial, mark, room,
-    );
-    match verdict {
-        Verdict::Refused(r) => Verdict::Refused(r),
-        Verdict::Passed => {
-            let cameras = marked_buffer(current, trial, mark);
-            fill_scales(
-                s, ends, rays, weights, scales, points, offsets, listed, cameras, out,
-            );
-            Verdict::Passed
-        }
-    }
+    )?;
+    fill_scales(&i, out);
+    Ok(())
 }

@@ -2,17 +2,15 @@
 // What it must print is the file `stdout`; each comparison that fails is a line more.
 #![tactic(auto)]
 
-ghost use Rattle.std.specs.Prelude.{◌≤◌};
+mod text;
 
-use graph::{Connectivity, Listing};
+ghost use Rattle.std.specs.Prelude.{◌≤◌, length};
+
 use io::{print_decimal, write_all};
-use network::answers::both;
-use network::{Refusal, Shape, Verdict};
-use placement::Answer;
-use records::lines::{Found, read_reals, read_wholes, same_reals, same_wholes};
-use records::parts::{some_reals, some_wholes, span};
-use records::text::{LOST, decimal, keyword, step};
-use system::work::{Length, work_length};
+use network::{Refusal, Shape};
+use placement::Report;
+use system::work::work_length;
+use text::Text;
 
 // What the buffers hold before a call: the work buffer, and every output.
 const JUNK: f64 = 1.5e300;
@@ -31,76 +29,33 @@ struct Case {
     limit: usize,
 }
 
-// Where each list ends in its buffer: one of usize holds ends, offsets and listed rows, one of doubles the other lists.
+// The lists of a case.
 #[derive(Clone, Copy)]
-struct Layout {
-    ends: usize,
-    offsets: usize,
-    listed: usize,
-    rays: usize,
-    weights: usize,
-    scales: usize,
-    points: usize,
-    positions: usize,
+struct Lists<'a> {
+    ends: &'a [usize],
+    rays: &'a [f64],
+    weights: &'a [f64],
+    scales: &'a [f64],
+    points: &'a [f64],
+    offsets: &'a [usize],
+    listed: &'a [usize],
+    positions: &'a [f64],
 }
 
-fn laid_out(s: Shape) -> Layout
-    requires cameras_bound { (s.cameras ≤ 64) × (s.points ≤ 64) }
-    requires bearings_bound { (s.bearings ≤ 64) × (s.directions ≤ 64) }
-{
-    let k = s.bearings + s.directions;
-    let offsets = 2 * k + s.points + 1;
-    let points = 5 * k + 3 * s.points;
-    Layout {
-        ends: 2 * k,
-        offsets,
-        listed: offsets + s.bearings,
-        rays: 3 * k,
-        weights: 4 * k,
-        scales: 5 * k,
-        points,
-        positions: points + 3 * s.cameras,
-    }
-}
-
-// Reads the input lines of the rows of a case.
-fn read_rows(p: Layout, input: &[u8], at: usize, wholes: &mut [usize], reals: &mut [f64]) -> usize {
-    let ends = read_wholes(input, at, b"ends", wholes, 0, p.ends);
-    let rays = read_reals(input, ends, b"rays", reals, 0, p.rays);
-    let weights = read_reals(input, rays, b"weights", reals, p.rays, p.weights);
-    read_reals(input, weights, b"scales", reals, p.weights, p.scales)
-}
-
-// Reads the input lines of the points and cameras.
-fn read_nodes(
-    p: Layout,
-    input: &[u8],
-    at: usize,
-    wholes: &mut [usize],
-    reals: &mut [f64],
-) -> usize {
-    let points = read_reals(input, at, b"points", reals, p.scales, p.points);
-    let offsets = read_wholes(input, points, b"offsets", wholes, p.ends, p.offsets);
-    let listed = read_wholes(input, offsets, b"rows", wholes, p.offsets, p.listed);
-    read_reals(input, listed, b"positions", reals, p.points, p.positions)
-}
-
-// The answer line: 0, anchor, route, rounds and few of an accepted solve, else number and place.
+// How many cases there are and how many agree; how many solves each route accepts, and how many are refused with each number.
 #[derive(Clone, Copy)]
-struct Line {
-    first: usize,
-    second: usize,
-    third: usize,
-    fourth: usize,
-    fifth: usize,
-    next: usize,
+struct Tally {
+    cases: usize,
+    agree: usize,
+    accepted: [usize; 4],
+    refused: [usize; 24],
 }
 
 // Says which comparison of which case fails.
-fn judge(number: usize, what: &[u8], same: bool) -> bool {
+fn judge(case: Case, what: &[u8], same: bool) -> bool {
     if !same {
         write_all(1, b"case ");
-        print_decimal(1, number as u64);
+        print_decimal(1, case.number as u64);
         write_all(1, b": ");
         write_all(1, what);
         write_all(1, b"\n");
@@ -108,671 +63,353 @@ fn judge(number: usize, what: &[u8], same: bool) -> bool {
     same
 }
 
-// Both comparisons hold; the text goes on after the later.
-fn joined(earlier: Found, later: Found) -> Found {
-    Found {
-        next: later.next,
-        same: both(earlier.same, later.same),
-    }
-}
-
-// What a comparison finds where there is nothing to compare: a call is refused, or a buffer is too short.
-fn lacking(number: usize, what: &[u8]) -> Found {
-    Found {
-        next: LOST,
-        same: judge(number, what, false),
-    }
-}
-
-// 1 or 0, or 2 of a refusal.
-fn connected(case: Case, p: Layout, wholes: &[usize], reals: &[f64]) -> usize {
+fn check_connected(case: Case, lists: Lists, text: &mut Text) -> bool {
     let mut nodes = [7usize; 128];
-    match graph::is_connected(
-        case.shape,
-        some_wholes(wholes, 0, p.ends),
-        some_reals(reals, p.rays, p.weights),
-        &mut nodes,
-    ) {
-        Connectivity::Refused(_) => 2,
-        Connectivity::Connected => 1,
-        Connectivity::Disconnected => 0,
-    }
+    // 1 or 0, or 2 of a refusal
+    let answer = match graph::is_connected(case.shape, lists.ends, lists.weights, &mut nodes) {
+        Err(_) => 2,
+        Ok(true) => 1,
+        Ok(false) => 0,
+    };
+    text.word(b"connected");
+    let same = text.whole() == answer;
+    text.end();
+    judge(case, b"connected", same)
 }
 
-fn check_connected(
-    case: Case,
-    p: Layout,
-    wholes: &[usize],
-    reals: &[f64],
-    input: &[u8],
-    at: usize,
-) -> Found {
-    let line = decimal(input, keyword(input, at, b"connected"));
-    let answer = connected(case, p, wholes, reals);
-    Found {
-        next: step(input, line.next, b'\n'),
-        same: judge(case.number, b"connected", line.value == answer),
-    }
-}
-
-// The count of parts, or 0 of a refusal.
-fn count_of(listing: Listing) -> usize {
-    match listing {
-        Listing::Refused(_) => 0,
-        Listing::Parts(count) => count,
-    }
-}
-
-fn compare_parts(
-    number: usize,
-    listing: Listing,
-    labels: &[usize],
-    input: &[u8],
-    at: usize,
-) -> Found {
-    let count = decimal(input, keyword(input, at, b"parts"));
-    let found = same_wholes(input, count.next, labels);
-    let same = both(found.same, count.value == count_of(listing));
-    Found {
-        next: found.next,
-        same: judge(number, b"parts", same),
-    }
-}
-
-fn list_parts(
-    case: Case,
-    p: Layout,
-    wholes: &[usize],
-    reals: &[f64],
-    nodes: &mut [usize],
-    labels: &mut [usize],
-    input: &[u8],
-    at: usize,
-) -> Found {
-    let n = case.shape.cameras;
-    if labels.len() < n {
-        return lacking(case.number, b"parts");
-    }
-    let part = &mut labels[0..n];
-    let listing = graph::parts(
-        case.shape,
-        some_wholes(wholes, 0, p.ends),
-        some_reals(reals, p.rays, p.weights),
-        nodes,
-        part,
-    );
-    compare_parts(case.number, listing, part, input, at)
-}
-
-fn check_parts(
-    case: Case,
-    p: Layout,
-    wholes: &[usize],
-    reals: &[f64],
-    input: &[u8],
-    at: usize,
-) -> Found {
+fn check_parts(case: Case, lists: Lists, text: &mut Text) -> bool
+    requires { case.shape.cameras ≤ 64 }
+{
     let mut nodes = [7usize; 128];
     let mut labels = [7usize; 64];
-    list_parts(case, p, wholes, reals, &mut nodes, &mut labels, input, at)
+    let labels = &mut labels[..case.shape.cameras];
+    // 0 of a refusal
+    let count = match graph::parts(case.shape, lists.ends, lists.weights, &mut nodes, labels) {
+        Err(_) => 0,
+        Ok(count) => count,
+    };
+    text.word(b"parts");
+    let same = text.whole() == count;
+    let labelled = text.same_wholes(labels);
+    judge(case, b"parts", same && labelled)
 }
 
 // The doubles that the solve's work buffer needs.
-fn needed(case: Case) -> usize {
+fn needed(case: Case) -> usize
+    ensures { result ≤ 8192 }
+{
     match work_length(case.shape, case.route, case.limit) {
-        Length::Refused(_) => 0,
-        Length::Of(length) => length,
+        Err(_) => 0,
+        Ok(length) => length.min(8192),
     }
 }
 
-// The doubles that it is lent: as many as it needs, or one or two more.
-fn lent(case: Case) -> usize {
-    let length = needed(case);
-    if 8192 < length {
-        return length;
-    }
-    length + case.number % 3
+// An answer of a text: an accepted solve, or number and place of a refusal.
+fn read_answer(text: &mut Text) -> Result<Report, (usize, usize)> {
+    text.word(b"answer");
+    let first = text.whole();
+    let second = text.whole();
+    let answer = if first == 0 {
+        Ok(Report {
+            anchor: second,
+            route: text.whole(),
+            rounds: text.whole(),
+            few: text.whole(),
+        })
+    } else {
+        Err((first, second))
+    };
+    text.end();
+    answer
 }
 
-// The answer where a buffer is too short to solve: none that a text has.
-fn unsolved() -> Answer {
-    Answer::Refused(Refusal {
-        number: 0,
-        place: 0,
-    })
-}
-
-fn solve_into(
-    case: Case,
-    p: Layout,
-    wholes: &[usize],
-    reals: &[f64],
-    marks: &mut [usize],
-    work: &mut [f64],
-    cameras: &mut [f64],
-    placed: &mut [f64],
-) -> Answer {
-    let t = lent(case);
-    let k = span(p.points, p.positions);
-    let q = span(p.scales, p.points);
-    if work.len() < t {
-        return unsolved();
-    }
-    if cameras.len() < k {
-        return unsolved();
-    }
-    if placed.len() < q {
-        return unsolved();
-    }
-    let b = span(p.offsets, p.listed);
-    if marks.len() < b {
-        return unsolved();
-    }
-    placement::solve(
-        case.shape,
-        some_wholes(wholes, 0, p.ends),
-        some_reals(reals, 0, p.rays),
-        some_reals(reals, p.rays, p.weights),
-        some_reals(reals, p.weights, p.scales),
-        some_reals(reals, p.scales, p.points),
-        some_wholes(wholes, p.ends, p.offsets),
-        some_wholes(wholes, p.offsets, p.listed),
-        &mut marks[0..b],
-        case.route,
-        case.limit,
-        &mut work[0..t],
-        &mut cameras[0..k],
-        &mut placed[0..q],
-    )
-}
-
-fn read_answer(input: &[u8], at: usize) -> Line {
-    let first = decimal(input, keyword(input, at, b"answer"));
-    let second = decimal(input, first.next);
-    if first.value != 0 {
-        return Line {
-            first: first.value,
-            second: second.value,
-            third: 0,
-            fourth: 0,
-            fifth: 0,
-            next: step(input, second.next, b'\n'),
-        };
-    }
-    let third = decimal(input, second.next);
-    let fourth = decimal(input, third.next);
-    let fifth = decimal(input, fourth.next);
-    Line {
-        first: 0,
-        second: second.value,
-        third: third.value,
-        fourth: fourth.value,
-        fifth: fifth.value,
-        next: step(input, fifth.next, b'\n'),
-    }
-}
-
-fn same_answer(answer: Answer, line: Line) -> bool {
-    match answer {
-        Answer::Refused(r) => both(
-            line.first != 0,
-            both(line.first == r.number, line.second == r.place),
-        ),
-        Answer::Accepted(r) => both(
-            both(line.first == 0, line.second == r.anchor),
-            both(
-                line.third == r.route,
-                both(line.fourth == r.rounds, line.fifth == r.few),
-            ),
-        ),
-    }
-}
-
-// Whether each number has these bits.
-fn all_are(numbers: &[f64], bits: u64) -> bool {
-    let mut i = 0usize;
-    while i < numbers.len() {
-        if double::to_bits(numbers[i]) != bits {
-            return false;
+fn same_answer(answer: Result<Report, Refusal>, wanted: Result<Report, (usize, usize)>) -> bool {
+    match (answer, wanted) {
+        (Ok(a), Ok(b)) => {
+            a.anchor == b.anchor && a.route == b.route && a.rounds == b.rounds && a.few == b.few
         }
-        i += 1;
+        (Err(r), Err((number, place))) => r.cause.number() == number && r.place == place,
+        _ => false,
     }
-    true
+}
+
+// Whether each number has the bits of x.
+fn all_are(numbers: &[f64], x: f64) -> bool {
+    numbers
+        .iter()
+        .all(|y| double::to_bits(*y) == double::to_bits(x))
 }
 
 // The first `count` marks are zero, and the others untouched.
 fn unmarked(marks: &[usize], count: usize) -> bool {
-    let mut i = 0usize;
-    while i < marks.len() {
-        let wanted = if i < count { 0 } else { MARK };
-        if marks[i] != wanted {
-            return false;
-        }
-        i += 1;
-    }
-    true
-}
-
-// The needed part is +0.0 throughout, and the surplus untouched.
-fn cleared(work: &[f64], length: usize) -> bool {
-    if work.len() < length {
-        return false;
-    }
-    both(
-        all_are(&work[0..length], 0),
-        all_are(&work[length..], double::to_bits(JUNK)),
-    )
+    marks
+        .iter()
+        .enumerate()
+        .all(|(i, mark)| *mark == if i < count { 0 } else { MARK })
 }
 
 // A line of doubles, compared with the first of an output; the others must be untouched.
-fn compare_output(
-    number: usize,
-    word: &[u8],
-    out: &[f64],
-    count: usize,
-    input: &[u8],
-    at: usize,
-) -> Found {
-    if out.len() < count {
-        return lacking(number, word);
-    }
-    let found = same_reals(input, at, word, &out[0..count]);
-    let kept = all_are(&out[count..], double::to_bits(CANARY));
-    Found {
-        next: found.next,
-        same: judge(number, word, both(found.same, kept)),
+fn same_output(word: &[u8], out: &[f64], count: usize, text: &mut Text) -> bool
+    requires { count ≤ length out.now }
+{
+    let same = text.same_reals(word, &out[..count]);
+    same && all_are(&out[count..], CANARY)
+}
+
+// One more, where the place is there.
+fn count(tally: &mut [usize], place: usize) {
+    if let Some(old) = tally.get_mut(place) {
+        *old = old.saturating_add(1);
     }
 }
 
-// How many numbers of an output are filled: all, or none where the solve is refused.
-fn filled(line: Line, count: usize) -> usize {
-    if line.first == 0 { count } else { 0 }
-}
-
-// Compares what the solve answers.
-fn compare_solve(
-    case: Case,
-    p: Layout,
-    answer: Answer,
-    work: &[f64],
-    cameras: &[f64],
-    placed: &[f64],
-    input: &[u8],
-    at: usize,
-) -> Found {
-    let line = read_answer(input, at);
-    let k = filled(line, span(p.points, p.positions));
-    let q = filled(line, span(p.scales, p.points));
-    let answered = judge(case.number, b"answer", same_answer(answer, line));
-    let cleaned = judge(case.number, b"work", cleared(work, needed(case)));
-    let first = compare_output(case.number, b"cameras", cameras, k, input, line.next);
-    let second = compare_output(case.number, b"placed", placed, q, input, first.next);
-    Found {
-        next: second.next,
-        same: both(both(answered, cleaned), both(first.same, second.same)),
-    }
-}
-
-// Where an answer is counted: an accepted one at its route, a refused one at 3 and its number.
-fn class(answer: Answer) -> usize {
-    match answer {
-        Answer::Refused(r) => {
-            let number = r.number;
-            if number < 100 { 3 + number } else { 0 }
-        }
-        Answer::Accepted(r) => r.route,
-    }
-}
-
-// One more where it holds, up to a million.
-fn counted(count: usize, holds: bool) -> usize {
-    if !holds {
-        return count;
-    }
-    if count < 1_000_000 { count + 1 } else { count }
-}
-
-fn count_at(tally: &mut [usize], place: usize) {
-    if place < tally.len() {
-        let old = tally[place];
-        tally[place] = counted(old, true);
-    }
-}
-
-fn check_solve(
-    case: Case,
-    p: Layout,
-    wholes: &[usize],
-    reals: &[f64],
-    input: &[u8],
-    at: usize,
-    tally: &mut [usize],
-) -> Found {
+fn check_solve(case: Case, lists: Lists, text: &mut Text, tally: &mut Tally) -> bool
+    requires { (case.shape.cameras ≤ 64) × (case.shape.points ≤ 64) × (case.shape.bearings ≤ 64) }
+{
+    let s = case.shape;
+    let needed = needed(case);
+    // as many doubles as it needs, or one or two more
+    let lent = needed + case.number % 3;
     let mut marks = [MARK; 64];
     let mut work = [JUNK; 8194];
     let mut cameras = [CANARY; 192];
     let mut placed = [CANARY; 192];
-    let answer = solve_into(
-        case,
-        p,
-        wholes,
-        reals,
-        &mut marks,
-        &mut work,
-        &mut cameras,
-        &mut placed,
+    let answer = placement::solve(
+        s,
+        lists.ends,
+        lists.rays,
+        lists.weights,
+        lists.scales,
+        lists.points,
+        lists.offsets,
+        lists.listed,
+        &mut marks[..s.bearings],
+        case.route,
+        case.limit,
+        &mut work[..lent],
+        &mut cameras[..3 * s.cameras],
+        &mut placed[..3 * s.points],
     );
-    count_at(tally, class(answer));
-    let clean = unmarked(&marks, span(p.offsets, p.listed));
-    let found = compare_solve(case, p, answer, &work, &cameras, &placed, input, at);
-    Found {
-        next: found.next,
-        same: both(judge(case.number, b"marks", clean), found.same),
+    match answer {
+        Err(r) => count(&mut tally.refused, r.cause.number()),
+        Ok(report) => count(&mut tally.accepted, report.route),
     }
-}
-
-// How many numbers of an output are filled, or LOST of a refusal.
-fn filled_if(verdict: Verdict, count: usize) -> usize {
-    match verdict {
-        Verdict::Refused(_) => LOST,
-        Verdict::Passed => count,
-    }
-}
-
-// Fills the dots, and answers how many.
-fn dots_into<'a>(
-    case: Case,
-    p: Layout,
-    wholes: &[usize],
-    reals: &'a [f64],
-    trial: &'a [f64],
-    marks: &mut [usize],
-    out: &mut [f64],
-) -> usize {
-    let current = some_reals(reals, p.points, p.positions);
-    let verdict = recover::dots(
-        case.shape,
-        some_wholes(wholes, 0, p.ends),
-        some_reals(reals, 0, p.rays),
-        some_reals(reals, p.rays, p.weights),
-        some_reals(reals, p.weights, p.scales),
-        some_reals(reals, p.scales, p.points),
-        some_wholes(wholes, p.ends, p.offsets),
-        some_wholes(wholes, p.offsets, p.listed),
-        marks,
-        current,
-        trial,
-        false,
-        out,
-    );
-    filled_if(verdict, out.len())
-}
-
-// Fills the new scales, and answers how many.
-fn scales_into<'a>(
-    case: Case,
-    p: Layout,
-    wholes: &[usize],
-    reals: &'a [f64],
-    trial: &'a [f64],
-    marks: &mut [usize],
-    out: &mut [f64],
-) -> usize {
-    let current = some_reals(reals, p.points, p.positions);
-    let verdict = recover::scales(
-        case.shape,
-        some_wholes(wholes, 0, p.ends),
-        some_reals(reals, 0, p.rays),
-        some_reals(reals, p.rays, p.weights),
-        some_reals(reals, p.weights, p.scales),
-        some_reals(reals, p.scales, p.points),
-        some_wholes(wholes, p.ends, p.offsets),
-        some_wholes(wholes, p.offsets, p.listed),
-        marks,
-        current,
-        trial,
-        false,
-        out,
-    );
-    filled_if(verdict, out.len())
-}
-
-// Fills the dots, or the new scales, into as many numbers as there are rows.
-fn rows_into<'a>(
-    case: Case,
-    p: Layout,
-    wholes: &[usize],
-    reals: &'a [f64],
-    trial: &'a [f64],
-    renew: bool,
-    marks: &mut [usize],
-    out: &mut [f64],
-) -> usize {
-    let size = span(p.points, p.positions);
-    let k = span(p.rays, p.weights);
-    let b = span(p.offsets, p.listed);
-    if trial.len() < size {
-        return LOST;
-    }
-    if out.len() < k {
-        return LOST;
-    }
-    if marks.len() < b {
-        return LOST;
-    }
-    let others = &trial[0..size];
-    let marked = &mut marks[0..b];
-    let filled = &mut out[0..k];
-    if renew {
-        scales_into(case, p, wholes, reals, others, marked, filled)
+    let wanted = read_answer(text);
+    let answered = judge(case, b"answer", same_answer(answer, wanted));
+    let cleared = all_are(&work[..needed], 0.0) && all_are(&work[needed..], JUNK);
+    let cleared = judge(case, b"work", cleared);
+    // of a refused solve the outputs are untouched
+    let (k, q) = if wanted.is_ok() {
+        (3 * s.cameras, 3 * s.points)
     } else {
-        dots_into(case, p, wholes, reals, others, marked, filled)
-    }
+        (0, 0)
+    };
+    let first = judge(case, b"cameras", same_output(b"cameras", &cameras, k, text));
+    let second = judge(case, b"placed", same_output(b"placed", &placed, q, text));
+    let unmarked = judge(case, b"marks", unmarked(&marks, s.bearings));
+    answered && cleared && first && second && unmarked
 }
 
-// The dots, or the new scales.
-fn check_rows(
-    case: Case,
-    p: Layout,
-    wholes: &[usize],
-    reals: &[f64],
-    renew: bool,
-    input: &[u8],
-    at: usize,
-) -> Found {
-    let trial = [CANARY; 192];
+// The dots, or the new scales: `fill` fills a number for each row.
+fn check_rows<F>(case: Case, word: &[u8], text: &mut Text, fill: F) -> bool
+where
+    F: FnOnce(&mut [usize], &mut [f64]) -> Result<(), Refusal>,
+    requires callable { F.IsAlwaysCallable fill }
+    requires bounds { (case.shape.bearings ≤ 64) × (case.shape.directions ≤ 64) }
+{
+    let s = case.shape;
+    let k = s.bearings + s.directions;
     let mut marks = [MARK; 64];
     let mut out = [CANARY; 128];
-    let count = rows_into(case, p, wholes, reals, &trial, renew, &mut marks, &mut out);
-    let clean = unmarked(&marks, span(p.offsets, p.listed));
-    let found = if renew {
-        compare_output(case.number, b"renewed", &out, count, input, at)
-    } else {
-        compare_output(case.number, b"dots", &out, count, input, at)
-    };
-    Found {
-        next: found.next,
-        same: both(judge(case.number, b"marks", clean), found.same),
-    }
-}
-
-// The first three lines of a case, and the place after them.
-#[derive(Clone, Copy)]
-struct Head {
-    case: Case,
-    next: usize,
-}
-
-fn read_head(input: &[u8], at: usize) -> Head {
-    let number = decimal(input, keyword(input, at, b"case"));
-    let n = decimal(
-        input,
-        keyword(input, step(input, number.next, b'\n'), b"counts"),
-    );
-    let m = decimal(input, n.next);
-    let b = decimal(input, m.next);
-    let e = decimal(input, b.next);
-    let route = decimal(input, keyword(input, step(input, e.next, b'\n'), b"solve"));
-    let limit = decimal(input, route.next);
-    let case = Case {
-        number: number.value,
-        shape: Shape {
-            cameras: n.value,
-            points: m.value,
-            bearings: b.value,
-            directions: e.value,
-        },
-        route: route.value,
-        limit: limit.value,
-    };
-    Head {
-        case,
-        next: step(input, limit.next, b'\n'),
-    }
-}
-
-fn check_all(
-    case: Case,
-    p: Layout,
-    wholes: &[usize],
-    reals: &[f64],
-    input: &[u8],
-    at: usize,
-    tally: &mut [usize],
-) -> Found {
-    let connected = check_connected(case, p, wholes, reals, input, at);
-    let parts = check_parts(case, p, wholes, reals, input, connected.next);
-    let solved = check_solve(case, p, wholes, reals, input, parts.next, tally);
-    let dots = check_rows(case, p, wholes, reals, false, input, solved.next);
-    let scales = check_rows(case, p, wholes, reals, true, input, dots.next);
-    let whole = Found {
-        next: scales.next,
-        same: judge(case.number, b"text", scales.next != LOST),
-    };
-    joined(
-        joined(connected, parts),
-        joined(joined(solved, dots), joined(scales, whole)),
-    )
-}
-
-fn replay_lists(case: Case, p: Layout, input: &[u8], at: usize, tally: &mut [usize]) -> Found {
-    let mut wholes = [0usize; 512];
-    let mut reals = [0.0f64; 1024];
-    let rows = read_rows(p, input, at, &mut wholes, &mut reals);
-    let nodes = read_nodes(p, input, rows, &mut wholes, &mut reals);
-    check_all(case, p, &wholes, &reals, input, nodes, tally)
-}
-
-fn too_large() -> Found {
-    write_all(1, b"case too large\n");
-    Found {
-        next: LOST,
-        same: false,
-    }
-}
-
-fn replay(head: Head, input: &[u8], tally: &mut [usize]) -> Found {
-    let case = head.case;
-    let s = case.shape;
-    if 64 < s.cameras {
-        return too_large();
-    }
-    if 64 < s.points {
-        return too_large();
-    }
-    if 64 < s.bearings {
-        return too_large();
-    }
-    if 64 < s.directions {
-        return too_large();
-    }
-    replay_lists(case, laid_out(s), input, head.next, tally)
-}
-
-// The place after a line.
-fn line_end(input: &[u8], at: usize) -> usize {
-    let mut place = at;
-    while place < input.len() {
-        if input[place] == b'\n' {
-            return place + 1;
+    let same = match fill(&mut marks[..s.bearings], &mut out[..k]) {
+        Ok(()) => same_output(word, &out, k, text),
+        Err(_) => {
+            // there is nothing to compare
+            text.at = None;
+            false
         }
-        place += 1;
+    };
+    let same = judge(case, word, same);
+    let unmarked = judge(case, b"marks", unmarked(&marks, s.bearings));
+    same && unmarked
+}
+
+fn check_dots(case: Case, lists: Lists, text: &mut Text) -> bool
+    requires { (case.shape.cameras ≤ 64) × (case.shape.bearings ≤ 64) × (case.shape.directions ≤ 64) }
+{
+    let trial = [CANARY; 192];
+    let trial = &trial[..3 * case.shape.cameras];
+    let dots = check_rows(case, b"dots", text, |marks, out| {
+        recover::dots(
+            case.shape,
+            lists.ends,
+            lists.rays,
+            lists.weights,
+            lists.scales,
+            lists.points,
+            lists.offsets,
+            lists.listed,
+            marks,
+            lists.positions,
+            trial,
+            false,
+            out,
+        )
+    });
+    let renewed = check_rows(case, b"renewed", text, |marks, out| {
+        recover::scales(
+            case.shape,
+            lists.ends,
+            lists.rays,
+            lists.weights,
+            lists.scales,
+            lists.points,
+            lists.offsets,
+            lists.listed,
+            marks,
+            lists.positions,
+            trial,
+            false,
+            out,
+        )
+    });
+    dots && renewed
+}
+
+// Reads the first three lines of a case.
+fn read_case(text: &mut Text) -> Case {
+    text.word(b"case");
+    let number = text.whole();
+    text.end();
+    text.word(b"counts");
+    let shape = Shape {
+        cameras: text.whole(),
+        points: text.whole(),
+        bearings: text.whole(),
+        directions: text.whole(),
+    };
+    text.end();
+    text.word(b"solve");
+    let route = text.whole();
+    let limit = text.whole();
+    text.end();
+    Case {
+        number,
+        shape,
+        route,
+        limit,
     }
-    place
+}
+
+fn check_all(case: Case, lists: Lists, text: &mut Text, tally: &mut Tally) -> bool
+    requires { (case.shape.cameras ≤ 64) × (case.shape.points ≤ 64) × (case.shape.bearings ≤ 64) × (case.shape.directions ≤ 64) }
+{
+    let connected = check_connected(case, lists, text);
+    let parts = check_parts(case, lists, text);
+    let solved = check_solve(case, lists, text, tally);
+    let rows = check_dots(case, lists, text);
+    let whole = judge(case, b"text", text.at.is_some());
+    connected && parts && solved && rows && whole
+}
+
+// Reads the lists of a case, and compares its answers.
+fn replay_lists(case: Case, text: &mut Text, tally: &mut Tally) -> bool
+    requires { (case.shape.cameras ≤ 64) × (case.shape.points ≤ 64) × (case.shape.bearings ≤ 64) × (case.shape.directions ≤ 64) }
+{
+    let s = case.shape;
+    let k = s.bearings + s.directions;
+    let mut ends = [0usize; 256];
+    let mut rays = [0.0; 384];
+    let mut weights = [0.0; 128];
+    let mut scales = [0.0; 128];
+    let mut points = [0.0; 192];
+    let mut offsets = [0usize; 65];
+    let mut listed = [0usize; 64];
+    let mut positions = [0.0; 192];
+    let lists = Lists {
+        ends: text.wholes(b"ends", &mut ends[..2 * k]),
+        rays: text.reals(b"rays", &mut rays[..3 * k]),
+        weights: text.reals(b"weights", &mut weights[..k]),
+        scales: text.reals(b"scales", &mut scales[..k]),
+        points: text.reals(b"points", &mut points[..3 * s.points]),
+        offsets: text.wholes(b"offsets", &mut offsets[..s.points + 1]),
+        listed: text.wholes(b"rows", &mut listed[..s.bearings]),
+        positions: text.reals(b"positions", &mut positions[..3 * s.cameras]),
+    };
+    check_all(case, lists, text, tally)
+}
+
+fn replay(text: &mut Text, tally: &mut Tally) -> bool {
+    let case = read_case(text);
+    let s = case.shape;
+    if 64 < s.cameras || 64 < s.points || 64 < s.bearings || 64 < s.directions {
+        write_all(1, b"case too large\n");
+        text.at = None;
+        return false;
+    }
+    replay_lists(case, text, tally)
 }
 
 // The place of the first case.
 fn skip_comments(input: &[u8]) -> usize {
-    let mut at = 0usize;
-    while at < input.len() {
-        if input[at] != b'#' {
-            return at;
+    let mut starts = true;
+    for (place, byte) in input.iter().enumerate() {
+        if starts && *byte != b'#' {
+            return place;
         }
-        let next = line_end(input, at);
-        if next <= at {
-            return at;
-        }
-        at = next;
+        starts = *byte == b'\n';
     }
-    at
+    input.len()
 }
 
-// The cases, and those that agree.
-#[derive(Clone, Copy)]
-struct Total {
-    cases: usize,
-    agree: usize,
-}
-
-fn replay_all(input: &[u8], tally: &mut [usize]) -> Total {
+// Up to the end of the text, or to where it is lost.
+fn replay_all(input: &[u8]) -> Tally {
+    let mut tally = Tally {
+        cases: 0,
+        agree: 0,
+        accepted: [0; 4],
+        refused: [0; 24],
+    };
     let mut at = skip_comments(input);
-    let mut cases = 0usize;
-    let mut agree = 0usize;
+    let mut text = Text::new(input, at);
     while at < input.len() {
-        let head = read_head(input, at);
-        let found = replay(head, input, tally);
-        let next = found.next;
+        let same = replay(&mut text, &mut tally);
+        // where the text is lost, no case is left
+        let next = text.at.unwrap_or(input.len());
+        // a case that is read is not empty
         if next <= at {
             break;
         }
-        agree = counted(agree, found.same);
-        cases = counted(cases, true);
+        tally.cases = tally.cases.saturating_add(1);
+        if same {
+            tally.agree = tally.agree.saturating_add(1);
+        }
         at = next;
     }
-    Total { cases, agree }
+    tally
 }
 
-fn print_count(name: &[u8], number: usize, count: usize) {
-    if 0 < count {
-        write_all(1, name);
-        print_decimal(1, number as u64);
-        write_all(1, b": ");
-        print_decimal(1, count as u64);
-        write_all(1, b"\n");
-    }
-}
-
-// The classes that are met.
-fn print_tally(tally: &[usize]) {
-    let mut i = 0usize;
-    while i < tally.len() {
-        if i <= 3 {
-            print_count(b"accepted by route ", i, tally[i]);
-        } else {
-            print_count(b"refused ", i - 3, tally[i]);
+// The counts that are met.
+fn print_counts(name: &[u8], counts: &[usize]) {
+    for (number, count) in counts.iter().enumerate() {
+        if 0 < *count {
+            write_all(1, name);
+            print_decimal(1, number as u64);
+            write_all(1, b": ");
+            print_decimal(1, *count as u64);
+            write_all(1, b"\n");
         }
-        i += 1;
     }
 }
 
 fn run(input: &[u8]) {
-    let mut tally = [0usize; 32];
-    let total = replay_all(input, &mut tally);
-    print_tally(&tally);
+    let tally = replay_all(input);
+    print_counts(b"accepted by route ", &tally.accepted);
+    print_counts(b"refused ", &tally.refused);
     write_all(1, b"cases ");
-    print_decimal(1, total.cases as u64);
+    print_decimal(1, tally.cases as u64);
     write_all(1, b" agree ");
-    print_decimal(1, total.agree as u64);
+    print_decimal(1, tally.agree as u64);
     write_all(1, b"\n");
 }
 

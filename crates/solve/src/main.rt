@@ -3,7 +3,7 @@
 #![tactic(auto)]
 
 use command::run;
-use stream::{Moved, read_all, write_all};
+use stream::{read_all, write_all};
 
 // Prints what comes of an image.
 fn answer(rt: &HostRuntime, image: &[u8]) {
@@ -18,11 +18,10 @@ fn answer(rt: &HostRuntime, image: &[u8]) {
 fn main(rt: HostRuntime) {
     // One byte more than the longest image, so that a longer one is seen to be longer.
     let mut image = [0u8; 16385];
-    let read = read_all(&mut rt.stdin(), &mut image);
-    match read {
-        Moved::Failed => {
+    match read_all(&mut rt.stdin(), &mut image) {
+        Ok(count) => answer(&rt, &image[..count]),
+        Err(_) => {
             write_all(&mut rt.stderr(), b"solve: cannot read standard input\n");
         }
-        Moved::Count(count) => answer(&rt, &image[..count]),
     }
 }

@@ -4,7 +4,6 @@ pub mod Certificate
 pub mod Closest
 pub mod Meaning
 pub mod Examples
-mod Product
 mod Bracket
 mod Patterns
 mod Parted

@@ -1,107 +1,45 @@
 // Reading from a reader and writing to a writer of std, so that a failure is told from the end of the input.
 // A call that a signal interrupts before it moves a byte is a failure too, since no error is looked into. (A program that handles no signal is not
 // interrupted so.)
-// No contract here says which bytes come in or go out: of a call on standard input or output std promises only the number of bytes.
+// What `read_all` and `write_all` promise does not say which bytes come in or go out: of a call on standard input or output std promises only the
+// number of bytes.
 #![tactic(auto)]
 
-ghost use Rattle.std.specs.Prelude.{◌≡◌, ◌+◌, ◌-◌, ◌≤◌, min, length};
-ghost use Rattle.std.proofs.Math.Seq.{paste};
+ghost use Rattle.std.specs.Prelude.{◌≤◌, length};
+ghost use Rattle.std.specs.Io.KnownBytes.{ReadConsumes};
 ghost use Rattle.stream.specs.Stream.{ReadInto};
-ghost use Rattle.stream.specs.inner.Steps.{moved_by, Within, PutAt, ReadAt};
 
 use std::io;
 use std::io::{Read, Write};
 
-// What a call moved: so many bytes, or that it failed.
-#[derive(Clone, Copy)]
-pub enum Moved {
-    Count(usize),
-    Failed,
-}
-
-// What a reader's read or a writer's write answered: an error is a failure, and any other answer a count.
-fn told(answer: io::Result<usize>) -> Moved
-    ensures { result ≡ moved_by answer }
-{
-    match answer {
-        Ok(k) => Moved::Count(k),
-        Err(_) => Moved::Failed,
-    }
-}
-
-// One read, of at most `room` bytes, into the front of chunk. No bytes are the end of the input.
-fn read_once<R: Read>(from: &mut R, chunk: &mut [u8], room: usize) -> Moved
-    requires { room ≤ length chunk.old }
-    ensures { Within room result }
-{
-    told(from.read(&mut chunk[..room]))
-}
-
-// One write.
-fn write_once<W: Write>(to: &mut W, buf: &[u8]) -> Moved
-    ensures { Within (length buf.now) result }
-{
-    told(to.write(buf))
-}
-
-fn least(a: usize, b: usize) -> usize
-    ensures { result ≡ min a b }
-{
-    if a < b { a } else { b }
-}
-
-// The first n bytes of src into dst, from place `at` on.
-fn copy(src: &[u8], n: usize, dst: &mut [u8], at: usize)
-    requires { (n ≤ length src.now) × (at + n ≤ length dst.old) }
-    ensures { dst.new ≡ paste dst.old at src.now n }
-{
-    let mut i = 0usize;
-    while i < n {
-        dst[at + i] = src[i];
-        i += 1;
-    }
-}
-
-// The bytes that came, into buf from place `at` on.
-fn store(got: Moved, chunk: &[u8], buf: &mut [u8], at: usize)
-    requires { (at ≤ length buf.old) × Within (length chunk.now) got × Within (length buf.old - at) got }
-    ensures { PutAt got at chunk.now buf.old buf.new }
-{
-    if let Moved::Count(k) = got {
-        copy(chunk, k, buf, at);
-    }
-}
-
-// One read, of at most 4,096 bytes, into buf from place `at` on. The bytes come by way of an array, since a reader does not promise to leave those
-// after them as they were.
-fn read_at<R: Read>(from: &mut R, buf: &mut [u8], at: usize) -> Moved
-    requires { at ≤ length buf.old }
-    ensures { ReadAt result at buf.old buf.new }
+// One read, of at most 4,096 bytes, into the front of buf. No bytes are the end of the input, and an error, and nothing else, is a failure: `bytes`
+// says so of a reader whose bytes are known. The bytes come by way of an array, since a reader does not promise to leave those after them as they
+// were.
+fn read_once<R: Read>(from: &mut R, buf: &mut [u8]) -> io::Result<usize>
+    ensures into { ReadInto result buf.old buf.new }
+    ensures bytes { ReadConsumes (R.remaining from.old) (R.remaining from.new) result buf.new }
 {
     let mut chunk = [0u8; 4096];
-    let room = least(buf.len() - at, 4096);
-    let got = read_once(from, &mut chunk, room);
-    store(got, &chunk, buf, at);
-    got
+    let room = buf.len().min(chunk.len());
+    let count = from.read(&mut chunk[..room])?;
+    buf[..count].copy_from_slice(&chunk[..count]);
+    Ok(count)
 }
 
 // Reads until the input ends or buf is full, and counts the bytes, which stand at the front of buf. Those after them are as they were.
 // Where a read fails, bytes that came before it may stand at the front.
-pub fn read_all<R: Read>(from: &mut R, buf: &mut [u8]) -> Moved
+pub fn read_all<R: Read>(from: &mut R, buf: &mut [u8]) -> io::Result<usize>
     ensures { ReadInto result buf.old buf.new }
 {
-    let mut done = 0usize;
+    let mut done = 0;
+    // Kept: the count is what is returned. A `rest` of buf cut short at its front needs buf's length beside it, and a longer proof.
     while done < buf.len() {
-        let got = read_at(from, buf, done);
-        let Moved::Count(k) = got else {
-            return got;
-        };
-        if k == 0 {
-            return Moved::Count(done);
+        match read_once(from, &mut buf[done..])? {
+            0 => break,
+            count => done += count,
         }
-        done += k;
     }
-    Moved::Count(done)
+    Ok(done)
 }
 
 // Writes buf until all of it is taken, or a write fails or takes nothing, and counts the bytes that were taken: fewer than all only where that
@@ -109,16 +47,12 @@ pub fn read_all<R: Read>(from: &mut R, buf: &mut [u8]) -> Moved
 pub fn write_all<W: Write>(to: &mut W, buf: &[u8]) -> usize
     ensures { result ≤ length buf.now }
 {
-    let mut done = 0usize;
-    while done < buf.len() {
-        let taken = write_once(to, &buf[done..]);
-        let Moved::Count(k) = taken else {
-            return done;
-        };
-        if k == 0 {
-            return done;
+    let mut rest = buf;
+    while !rest.is_empty() {
+        match to.write(rest) {
+            Ok(0) | Err(_) => break,
+            Ok(count) => rest = &rest[count..],
         }
-        done += k;
     }
-    done
+    buf.len() - rest.len()
 }

@@ -1,4 +1,5 @@
 -- The anchor as a search finds it: the greatest degree so far, kept at its first camera. Assumes nothing.
+use Rattle.std.proofs.Common.{None, Option, Some}
 use mathlib.Core.Path.{◌≡◌, refl, sym, ◌∙◌}
 use mathlib.Core.Logic.{◌⊎◌, inl, inr, ⊎_elim}
 use mathlib.Core.List.{List}
@@ -7,11 +8,10 @@ use Prim.Native.Nat.{ℕ, ◌+◌, ◌<◌, ◌≤◌}
 use native.Mathlib.Omega.{arith}
 use borrow.Author.Count.{below_more}
 use lib.Ieee.{Float, lt}
-use Rattle.field.specs.declared.Place.{Place}
-use Rattle.field.specs.declared.Place.TheVariants.{At, Nowhere}
 use Rattle.field.specs.Count.{lowest}
 use Rattle.field.proofs.Counting.{lowest-none, lowest-is, none_of, found}
-use Rattle.network.specs.Lists.{none, absent}
+use Rattle.std.specs.Option.{is_none}
+use Rattle.network.specs.Lists.{none}
 use Rattle.network.proofs.PointLists.{each_none}
 use Rattle.system.specs.declared.assembly.Best.{Best}
 use Rattle.system.specs.declared.CameraTerm.{CameraTerm}
@@ -24,9 +24,9 @@ some-none : (p : ℕ → Bool) (n k : ℕ) → k < n → p k ≡ true → none p
 unfolding none
 some-none p n k h t = go (lowest p n) refl
   where
-    go : (r : Place) → lowest p n ≡ r → absent r ≡ false
-    go (At i) e = refl
-    go Nowhere e = absurd (true≢false (sym t ∙ none_of p n e k h))
+    go : (r : Option ℕ) → lowest p n ≡ r → is_none r ≡ false
+    go (Some i) e = refl
+    go None e = absurd (true≢false (sym t ∙ none_of p n e k h))
 
 and-false : (a b : Bool) → (a ≡ true → b ≡ false) → (a && b) ≡ false
 and-false true b h = h refl
@@ -95,13 +95,13 @@ module _ (ts : List CameraTerm) where
     where
       idle : (best ≡ minus_one) × (a ≡ 0) → a ≡ or_zero (lowest (greatest ts n) n)
       idle w =
-          let e : lowest (greatest ts n) n ≡ Nowhere = lowest-none _ n (λ k l. none-greatest n k (λ t. absurd (true≢false (sym t ∙ (rw w.0 at (b.most k l)))))) in
+          let e : lowest (greatest ts n) n ≡ None = lowest-none _ n (λ k l. none-greatest n k (λ t. absurd (true≢false (sym t ∙ (rw w.0 at (b.most k l)))))) in
           rw e w.1
 
       chosen : (best ≡ degree_at ts a) × (a < n) × (lt minus_one best ≡ true) → a ≡ or_zero (lowest (greatest ts n) n)
       chosen w =
           let t : greatest ts n a ≡ true = is-greatest n a (rw w.0 at w.2) (each_none _ n (λ k l. rw w.0 at (b.most k l))) in
-          let e : lowest (greatest ts n) n ≡ At a =
+          let e : lowest (greatest ts n) n ≡ Some a =
           lowest-is _ a n t w.1 (λ k l. none-greatest n k (λ u. some-none _ n a w.1 (rw w.0 at (b.first k l u)))) in
           rw e
 
@@ -114,6 +114,6 @@ pub anchor-below : (ts : List CameraTerm) (n : ℕ) → 0 < n → anchor_of ts n
 unfolding anchor_of
 anchor-below ts n h = go (lowest (greatest ts n) n) refl
   where
-    go : (r : Place) → lowest (greatest ts n) n ≡ r → or_zero r < n
-    go (At i) e = (found (greatest ts n) n i e).1
-    go Nowhere e = h
+    go : (r : Option ℕ) → lowest (greatest ts n) n ≡ r → or_zero r < n
+    go (Some i) e = (found (greatest ts n) n i e).1
+    go None e = h

@@ -15,9 +15,10 @@ use lib.ListN.{length, set, length-set}
 use lib.Seq.{get_or-set_same, get_or-set_other}
 use lib.Ieee.{Float, binary64, prec, add, lt, of_int, of_bits}
 use Rattle.double.proofs.Whole.{add-one-whole, lt-of-whole}
-use Rattle.field.specs.Count.{field, sum_below, indicator, count_below}
+use Rattle.std.specs.Int.{from_bool}
+use Rattle.field.specs.Count.{field, sum_below, count_below}
 use Rattle.field.proofs.Counting.{upto-invariant, get_or-field, length-field}
-use Rattle.field.proofs.Sums.{sum-none, sum-suc, sum-ext, sum-split, sum_same, sum_zeros, sum-add, sum-swap, sum_bound, sum_one, count-ext, indicator-most}
+use Rattle.field.proofs.Sums.{sum-none, sum-suc, sum-ext, sum-split, sum_same, sum_zeros, sum-add, sum-swap, sum_bound, sum_one, count-ext, from_bool-most}
 use Rattle.network.specs.Network.{Network, rows, first_end, second_end, is_bearing}
 use Rattle.network.specs.inner.Sound.{NetworkSound}
 use Rattle.network.proofs.Sound.{tests-sound}
@@ -36,7 +37,7 @@ small : (k : ℕ) → k ≤ 1000000 → k ≤ 2 ^ prec binary64
 small k h = le_trans h (lit≤ tt)
 
 -- a row that enters if b adds 1 to a count of k then
-counted-once : (b : Bool) (x : Float) (k : ℕ) → k ≤ 1000000 → x ≡ whole k → cond b (add binary64 x one) x ≡ whole (k + indicator b)
+counted-once : (b : Bool) (x : Float) (k : ℕ) → k ≤ 1000000 → x ≡ whole k → cond b (add binary64 x one) x ≡ whole (k + from_bool b)
 unfolding of_bits
 counted-once true x k h e = rw (e, add-one) (add-one-whole binary64 k (small k h))
 counted-once false x k h e = rw add-zero e
@@ -48,16 +49,16 @@ pub record Counted (n : ℕ) (g : ℕ → ℕ) (ts : List CameraTerm) : Type 0 w
 
 -- camera a's term is changed, and its count goes up by 1 if b
 count_set : (n : ℕ) (g : ℕ → ℕ) (ts : List CameraTerm) (a : ℕ) (b : Bool) (t : CameraTerm) → a < n → ((c : ℕ) → g c ≤ 1000000) → Counted n g ts →
-    t.count ≡ cond b (add binary64 (term_at ts a).count one) (term_at ts a).count → Counted n (λ c. g c + indicator (b && eqb a c)) (set ts a t)
+    t.count ≡ cond b (add binary64 (term_at ts a).count one) (term_at ts a).count → Counted n (λ c. g c + from_bool (b && eqb a c)) (set ts a t)
 count_set n g ts a b t l m C e = record { size = length-set ts a t ∙ C.size; count = λ c h. dite (ℕ_discrete a c) (hit c h) (miss c h) }
   where
-    hit : (c : ℕ) → c < n → a ≡ c → (term_at (set ts a t) c).count ≡ whole (g c + indicator (b && eqb a c))
+    hit : (c : ℕ) → c < n → a ≡ c → (term_at (set ts a t) c).count ≡ whole (g c + from_bool (b && eqb a c))
     hit c h q =
         let s : term_at (set ts a t) a ≡ t = get_or-set_same ts a t no_term (omega (arith, C.size)) in
-        let w : t.count ≡ whole (g a + indicator b) = e ∙ counted-once b (term_at ts a).count (g a) (m a) (C.count a l) in
+        let w : t.count ≡ whole (g a + from_bool b) = e ∙ counted-once b (term_at ts a).count (g a) (m a) (C.count a l) in
         rw (eq-eqb a c q, and-true b, ← q) (ap (λ (u : CameraTerm). u.count) s ∙ w)
 
-    miss : (c : ℕ) → c < n → (a ≡ c → ⊥) → (term_at (set ts a t) c).count ≡ whole (g c + indicator (b && eqb a c))
+    miss : (c : ℕ) → c < n → (a ≡ c → ⊥) → (term_at (set ts a t) c).count ≡ whole (g c + from_bool (b && eqb a c))
     miss c h q = rw (ne_eqb a c q, and-false b, add-zero) (ap (λ (u : CameraTerm). u.count) (get_or-set_other ts a c t no_term (λ e. q (sym e))) ∙ C.count c h)
 
 -- ---- row after row
@@ -84,9 +85,9 @@ module _ (net : Network) (N : NetworkSound net) where
       b : Bool
       b = eqb (second_end net.ends r) c
 
-      go : (q : Bool) → cond q (indicator (bearing_enters net r && a)) (indicator a + indicator b) ≤ 2
-      go true = let h = indicator-most (bearing_enters net r && a) in omega arith
-      go false = let h = indicator-most a in let k = indicator-most b in omega arith
+      go : (q : Bool) → cond q (from_bool (bearing_enters net r && a)) (from_bool a + from_bool b) ≤ 2
+      go true = let h = from_bool-most (bearing_enters net r && a) in omega arith
+      go false = let h = from_bool-most a in let k = from_bool-most b in omega arith
 
   up_to-small : (k c : ℕ) → k ≤ rows net.shape → up_to k c + 1 ≤ 1000000
   up_to-small k c h = omega (arith, sum_bound (entries net c) 2 k (two-most c), N.links.ends.shape)
@@ -117,7 +118,7 @@ module _ (net : Network) (N : NetworkSound net) where
       go false e =
           let D = count_set n (up_to r) ts a true _ (N.links.ends.camera r l) (λ c. let s = small_r c in omega arith) C refl in
           summed _ _
-          (count_set n _ _ b true _ (N.links.ends.target r (ltb-false _ _ e) l) (λ c. let s = small_r c in let k = indicator-most (eqb a c) in omega arith) D refl)
+          (count_set n _ _ b true _ (N.links.ends.target r (ltb-false _ _ e) l) (λ c. let s = small_r c in let k = from_bool-most (eqb a c) in omega arith) D refl)
           (λ c. rw e (omega arith))
 
   start-counted : Counted n (up_to 0) (field n (λ c. no_term))
@@ -133,11 +134,11 @@ module _ (net : Network) (N : NetworkSound net) where
 
   -- ---- the sum of the counts: each row enters at its ends, whichever cameras these are
 
-  bearing-entries : (r : ℕ) → r < net.shape.bearings → sum_below (λ c. entries net c r) n ≡ indicator (bearing_enters net r)
+  bearing-entries : (r : ℕ) → r < net.shape.bearings → sum_below (λ c. entries net c r) n ≡ from_bool (bearing_enters net r)
   unfolding entries
   bearing-entries r l = rw (lt-ltb _ _ l) (go (bearing_enters net r))
     where
-      go : (b : Bool) → sum_below (λ c. indicator (b && eqb (first_end net.ends r) c)) n ≡ indicator b
+      go : (b : Bool) → sum_below (λ c. from_bool (b && eqb (first_end net.ends r) c)) n ≡ from_bool b
       go true = sum_one (first_end net.ends r) n (N.links.ends.camera r (omega arith))
       go false = sum_zeros n
 
@@ -145,7 +146,7 @@ module _ (net : Network) (N : NetworkSound net) where
   unfolding entries
   direction-entries r b l =
       rw (le-ltb _ _ b)
-      (sum-add (λ c. indicator (eqb (first_end net.ends r) c)) (λ c. indicator (eqb (second_end net.ends r) c)) n
+      (sum-add (λ c. from_bool (eqb (first_end net.ends r) c)) (λ c. from_bool (eqb (second_end net.ends r) c)) n
       ∙ ap₂ ◌+◌ (sum_one _ n (N.links.ends.camera r l)) (sum_one _ n (N.links.ends.target r b l)))
 
   counts-sum : sum_below (row_count net) n ≡ count_below (bearing_enters net) net.shape.bearings + 2 * net.shape.directions
@@ -156,7 +157,7 @@ module _ (net : Network) (N : NetworkSound net) where
       let g : ℕ → ℕ = λ r. sum_below (λ c. entries net c r) n in
       sum-swap (entries net) n (B + E)
       ∙ sum-split g B E
-      ∙ ap₂ ◌+◌ (sum-ext g (λ r. indicator (bearing_enters net r)) B bearing-entries)
+      ∙ ap₂ ◌+◌ (sum-ext g (λ r. from_bool (bearing_enters net r)) B bearing-entries)
       (sum-ext (λ i. g (B + i)) (λ i. 2) E (λ i l. direction-entries (B + i) (omega arith) (omega arith)) ∙ sum_same 2 E)
 
   -- ---- how many are under 2

@@ -18,7 +18,6 @@ use Rattle.field.proofs.Counting.{length-field, upto_zero, upto-suc, upto-keeps}
 use Rattle.field.proofs.Buffers.{length-load, store-load, store-store, change-store, load_store, drop-store, get-vector}
 use Rattle.network.specs.declared.Shape.{Shape}
 use Rattle.network.specs.Network.{rows, first_end, second_end, is_bearing}
-use Rattle.network.specs.inner.Sound.{EndsSound}
 use Rattle.system.specs.declared.CameraTerm.{CameraTerm}
 use Rattle.system.specs.System.{Sums, no_term, term_at, sees, departs, arrives, add_bearing, add_direction, assemble_row, assemble_rows, terms_by}
 use Rattle.system.specs.Work.{term_place, weights_at, means_at, effective_at, matrix_at, term}
@@ -64,7 +63,7 @@ change-term : (F : CameraTerm → CameraTerm) (l m : List Float) (x : List Camer
     put term m (term_place c) (F (get term m (term_place c))) ≡ store term l 0 (set x c (F (term_at x c)))
 change-term F l m x c e h k = rw (← zero-add (term_place c)) (change-store term term-lawful F l m 0 x c no_term e h (rw zero-add k))
 
-module _ (s : Shape) (ends : List ℕ) (v : Vec3) (l : List Float) (E : EndsSound s ends) (room : matrix_at s ≤ length l) (r : ℕ) where
+module _ (s : Shape) (ends : List ℕ) (v : Vec3) (l : List Float) (room : matrix_at s ≤ length l) (r : ℕ) where
   x : List CameraTerm
   x = load term l 0 s.cameras
 
@@ -79,29 +78,30 @@ module _ (s : Shape) (ends : List ℕ) (v : Vec3) (l : List Float) (E : EndsSoun
   fits : term_place (length x) ≤ length l
   fits = rw size (omega arith)
 
-  pub bearing-added : (c p : ℕ) (e w : Float) (u : Vec3) (m : List Float) →
-      r < s.bearings → c ≡ first_end ends r → p ≡ second_end ends r → e ≡ (weights_in s l).row r → w ≡ (weights_in s l).point p →
-      u ≡ get vector l (means_at s + 3 * p) → m ≡ put term l (term_place c) (sees e w u v (get term l (term_place c))) →
+  -- t is the shape that was read
+  pub bearing-added : (t : Shape) (c p : ℕ) (e w : Float) (u : Vec3) (m : List Float) →
+      t ≡ s → c < s.cameras → c ≡ first_end ends r → p ≡ second_end ends r → e ≡ (weights_in t l).row r → w ≡ (weights_in t l).point p →
+      u ≡ get vector l (means_at t + 3 * p) → m ≡ put term l (term_place c) (sees e w u v (get term l (term_place c))) →
       m ≡ added s (always v) (add_bearing ends r) l
   unfolding added add_bearing x
-  bearing-added c p e w u m h ec ep ee ew eu em =
-      let i : c < length x = rw (size, ec) (E.camera r (omega arith)) in
+  bearing-added t c p e w u m et h ec ep ee ew eu em =
+      let i : c < length x = rw size h in
       let g : m ≡ store term l 0 (set x c (sees e w u v (term_at x c))) = em ∙ change-term (sees e w u v) l l x c stored i fits in
-      rw (eu, ee, ew, ep, ec) at g
+      rw (eu, ee, ew, et, ep, ec) at g
 
-  pub direction-added : (a b : ℕ) (e : Float) (m m' : List Float) →
-      s.bearings ≤ r → r < rows s → a ≡ first_end ends r → b ≡ second_end ends r → e ≡ (weights_in s l).row r →
+  pub direction-added : (t : Shape) (a b : ℕ) (e : Float) (m m' : List Float) →
+      t ≡ s → a < s.cameras → a ≡ first_end ends r → b < s.cameras → b ≡ second_end ends r → e ≡ (weights_in t l).row r →
       m ≡ put term l (term_place a) (departs e v (get term l (term_place a))) → m' ≡ put term m (term_place b) (arrives e v (get term m (term_place b))) →
       m' ≡ added s (always v) (add_direction ends r) l
   unfolding added add_direction x
-  direction-added a b e m m' h k ea eb ee em em' =
-      let i : a < length x = rw (size, ea) (E.camera r k) in
+  direction-added t a b e m m' et h ea k eb ee em em' =
+      let i : a < length x = rw size h in
       let y = set x a (departs e v (term_at x a)) in
       let n : length y ≡ s.cameras = length-set x a _ ∙ size in
-      let j : b < length y = rw (n, eb) (E.target r h k) in
+      let j : b < length y = rw n k in
       let f : m ≡ store term l 0 y = em ∙ change-term (departs e v) l l x a stored i fits in
       let g : m' ≡ store term l 0 (set y b (arrives e v (term_at y b))) = em' ∙ change-term (arrives e v) l m y b f j (rw n (omega arith)) in
-      rw (ee, ea, eb) at g
+      rw (ee, et, ea, eb) at g
 
   pub row-bearing : (m : List Float) → r < s.bearings → m ≡ added s (always v) (add_bearing ends r) l → m ≡ added s (always v) (assemble_row s ends r) l
   unfolding added assemble_row
@@ -140,9 +140,6 @@ module _ (s : Shape) (ends : List ℕ) (o : ℕ → Vec3) (l : List Float) (room
       let t : load term m 0 n ≡ x = ap (λ (q : List Float). load term q 0 n) e ∙ load_store term term-lawful l 0 x n size (omega arith) in
       let same : length x ≡ length (assemble_row s ends r S x) = sym (length-row s ends r S x) in
       f ∙ rw (own-pull s ends r o v m (load term m 0 n) h, k, t, e) (store-store term term-lawful l 0 x (assemble_row s ends r S x) same) ∙ ap (store term l 0) (rows-suc s ends r S (load term l 0 n))
-
-  pub rows-ended : (r n : ℕ) (m : List Float) → m ≡ added s o (assemble_rows s ends r) l → (r ≤ n) → (n ≤ r) → m ≡ added s o (assemble_rows s ends n) l
-  rows-ended r n m e a b = let q : r ≡ n = omega arith in rw q at e
 
   -- the terms were cleared before
   pub assembled : (k : ℕ) (m w : List Float) → k ≡ term_place s.cameras → m ≡ replicate k null ++ drop k l → w ≡ added s o (assemble_rows s ends (rows s)) m →

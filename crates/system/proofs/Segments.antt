@@ -1,4 +1,5 @@
 -- The work buffer's length is the end of its last segment; reads of its segments. Assumes nothing.
+use Rattle.std.proofs.Common.{Err, Ok}
 use mathlib.Core.Path.{◌≡◌, sym, ap, ◌∙◌}
 use Prim.Native.Nat.{ℕ, ◌+◌}
 use mathlib.Core.List.{List}
@@ -8,11 +9,9 @@ use Rattle.field.specs.declared.Vec3.{Vec3}
 use Rattle.field.specs.Buffer.{get, vector}
 use native.Mathlib.Omega.{arith}
 use Rattle.network.specs.declared.Refusal.{Refusal}
-use Rattle.network.specs.declared.Verdict.{Verdict}
-use Rattle.network.specs.declared.Verdict.TheVariants.{Refused, Passed}
+use Rattle.network.specs.Refusals.{Verdict}
 use Rattle.network.specs.declared.Shape.{Shape}
 use Rattle.network.specs.Refusals.{verdict, count_tests, dense_rows}
-use Rattle.system.specs.declared.work.Length.TheVariants.{Refused as NoLength, Of}
 use Rattle.system.specs.Work.{work_end, work_length, length_if, length_of}
 
 pub work-length-is : (s : Shape) (route limit : ℕ) → work_length s route limit ≡ work_end s (dense_rows s.cameras route limit)
@@ -22,13 +21,13 @@ work-length-is s route limit = omega arith
 pub needed-is : (s : Shape) (route limit d t : ℕ) → d ≡ dense_rows s.cameras route limit → t ≡ work_end s d → t ≡ work_length s route limit
 needed-is s route limit d t e h = h ∙ rw e (sym (work-length-is s route limit))
 
-pub length-refused : (s : Shape) (route limit : ℕ) (x : Verdict) (r : Refusal) → x ≡ verdict (count_tests s) → x ≡ Refused r → NoLength r ≡ length_of s route limit
+pub length-refused : (s : Shape) (route limit : ℕ) (x : Verdict) (r : Refusal) → x ≡ verdict (count_tests s) → x ≡ Err r → Err r ≡ length_of s route limit
 unfolding length_of
 length-refused s route limit x r e h = sym (ap (λ v. length_if v (work_length s route limit)) (sym e ∙ h))
 
-pub length-of : (s : Shape) (route limit : ℕ) (x : Verdict) (t : ℕ) → x ≡ verdict (count_tests s) → x ≡ Passed → t ≡ work_length s route limit → Of t ≡ length_of s route limit
+pub length-of : (s : Shape) (route limit : ℕ) (x : Verdict) (t : ℕ) → x ≡ verdict (count_tests s) → x ≡ Ok tt → t ≡ work_length s route limit → Ok t ≡ length_of s route limit
 unfolding length_of
-length-of s route limit x t e h f = rw (sym e ∙ h) (ap Of f)
+length-of s route limit x t e h f = rw (sym e ∙ h) (ap Ok f)
 
 -- ---- reads at places that are known
 

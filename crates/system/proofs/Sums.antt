@@ -3,7 +3,7 @@ use mathlib.Core.Path.{◌≡◌, refl, sym, ap, ◌∙◌}
 use mathlib.Core.Logic.{inr}
 use mathlib.Core.List.{List}
 use mathlib.Core.Bool.{true, false}
-use Prim.Native.Nat.{ℕ, suc, ◌+◌, ◌*◌, ◌<◌, ◌≤◌}
+use Prim.Native.Nat.{ℕ, suc, ◌+◌, ◌*◌, ◌<◌}
 use native.Mathlib.Numerals.{add-one}
 use native.Mathlib.Omega.{arith}
 use lib.ListN.{get_or, set}
@@ -39,9 +39,6 @@ module _ (e : ℕ → Float) (listed : List ℕ) (f : ℕ) where
   unfolding weight_sum total
   weight-more i r s x er ex es = rw (add-one, ← er, ex) (ap (λ (t : Float). add binary64 t (e r)) es)
 
-pub weight-ended : (e : ℕ → Float) (listed : List ℕ) (k : Span) (i : ℕ) (s : Float) → s ≡ weight_sum e listed (places k.first i) → i ≤ k.size → k.size ≤ i → s ≡ weight_sum e listed k
-weight-ended e listed k i s es a b = let q : i ≡ k.size = omega arith in rw q at es
-
 -- ---- the pulls
 
 module _ (o : ℕ → Vec3) (listed : List ℕ) (f : ℕ) where
@@ -52,9 +49,6 @@ module _ (o : ℕ → Vec3) (listed : List ℕ) (f : ℕ) where
   pub pulls-more : (i r : ℕ) (s t x : Vec3) → r ≡ get_or listed (f + i) 0 → x ≡ o r → s ≡ pull_sum o listed (places f i) → t ≡ plus s x → t ≡ pull_sum o listed (places f (i + 1))
   unfolding pull_sum
   pulls-more i r s t x er ex es et = rw (add-one, upto-suc, ← es, ← er, ← ex) et
-
-pub pulls-ended : (o : ℕ → Vec3) (listed : List ℕ) (k : Span) (i : ℕ) (s : Vec3) → s ≡ pull_sum o listed (places k.first i) → i ≤ k.size → k.size ≤ i → s ≡ pull_sum o listed k
-pulls-ended o listed k i s es a b = let q : i ≡ k.size = omega arith in rw q at es
 
 -- ---- the mean offset
 
@@ -70,9 +64,6 @@ mean-below w v u h e = rw h e
 
 pub numbers_more : (l : List Float) (p i : ℕ) (g : ℕ → Float) (w : List Float) (a : Float) → w ≡ store number l p (field i g) → a ≡ g i → set w (p + i) a ≡ store number l p (field (i + 1) g)
 numbers_more l p i g w a e h = rw add-one (sym (number-set w p i a) ∙ map_more number number-lawful l p i g w a e h)
-
-pub numbers-ended : (l : List Float) (p i n q : ℕ) (g : ℕ → Float) (w : List Float) → w ≡ store number l p (field i g) → (i ≤ n) → (n ≤ i) → p ≡ q → w ≡ store number l q (field n g)
-numbers-ended l p i n q g w e a b h = let k : i ≡ n = omega arith in rw (h, k) at e
 
 -- a number and a vector stored at places that are known
 pub stored_at : (l m : List Float) (a b p q : ℕ) (w : Float) (v : Vec3) → a ≡ p → b ≡ q → (i j : ℕ) → m ≡ put vector (set l (a + i) w) (b + j) v → m ≡ put vector (set l (p + i) w) (q + j) v
@@ -115,6 +106,3 @@ module _ (s : Shape) (rays weights scales : List Float) (offsets listed : List �
   pub points-more : (p : ℕ) (m w : List Float) → p < s.points → m ≡ summed s S l p → w ≡ point_stored s S p m → w ≡ summed s S l (p + 1)
   unfolding summed point_stored
   points-more p m w h e f = f ∙ rw add-one (both-more l m (weights_at s) (means_at s) p S.weights.point S.mean (omega arith) e)
-
-  pub points-ended : (p n : ℕ) (m : List Float) → m ≡ summed s S l p → (p ≤ n) → (n ≤ p) → m ≡ summed s S l n
-  points-ended p n m e a b = let q : p ≡ n = omega arith in rw q at e

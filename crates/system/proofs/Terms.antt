@@ -10,7 +10,8 @@ use lib.ListN.{length, get_or, set, drop, replicate, replicate-append-replicate}
 use lib.Ieee.{Float, nan, binary64, add, lt}
 use Rattle.field.specs.declared.Vec3.{Vec3}
 use Rattle.field.specs.Vec.{null, plus, minus, scale}
-use Rattle.field.specs.Count.{field, indicator}
+use Rattle.std.specs.Int.{from_bool}
+use Rattle.field.specs.Count.{field}
 use Rattle.field.specs.Buffer.{Cell, part, write, get, put, flat, load, store, vector}
 use Rattle.field.proofs.Counting.{field-zero, field-suc}
 use Rattle.field.proofs.Sums.{count_none, count-more}
@@ -99,13 +100,10 @@ pub few-none : (ts : List CameraTerm) → 0 ≡ few_in ts 0
 unfolding few_in
 few-none ts = sym (count_none _)
 
-pub few-more : (l : List Float) (n c k x : ℕ) (t : CameraTerm) → c < n → t ≡ get term l (term_place c) → x ≡ indicator (lt t.count two) → k ≡ few_in (load term l 0 n) c →
+pub few-more : (l : List Float) (n c k x : ℕ) (t : CameraTerm) → c < n → t ≡ get term l (term_place c) → x ≡ from_bool (lt t.count two) → k ≡ few_in (load term l 0 n) c →
     k + x ≡ few_in (load term l 0 n) (c + 1)
 unfolding few_in
-few-more l n c k x t h e f g = count-more _ c k x g (f ∙ ap (λ (u : CameraTerm). indicator (lt u.count two)) (e ∙ term-here l n c h))
-
-pub few-ended : (ts : List CameraTerm) (c n k : ℕ) → k ≡ few_in ts c → c ≤ n → n ≤ c → k ≡ few_in ts n
-few-ended ts c n k e g h = let q : c ≡ n = omega arith in rw q at e
+few-more l n c k x t h e f g = count-more _ c k x g (f ∙ ap (λ (u : CameraTerm). from_bool (lt u.count two)) (e ∙ term-here l n c h))
 
 -- a field of values whose numbers are all the same
 pub flat-same : {A : Type 0} (K : Cell A) (a : A) (v : Float) → K.numbers a ≡ replicate K.width v → (n : ℕ) → flat K (field n (λ i. a)) ≡ replicate (K.width * n) v

@@ -1,11 +1,10 @@
 -- The system of the linear step (document 01, 'Arithmetic of the step'), of the network alone.
 -- Sums start at +0.0 and go in list or row order; each operation rounds once.
+use Rattle.std.specs.Prelude.{None, Option, Some}
 use Rattle.std.specs.Prelude.{ℕ, ◌*◌, List, Bool, cond, ◌&&◌, get_or, set, Float}
 use Rattle.std.specs.Float.{nan, binary64}
 use Rattle.std.specs.Float.Ieee.{add, sub, mul, div, lt, of_bits}
 use Rattle.field.specs.declared.Vec3.{Vec3}
-use Rattle.field.specs.declared.Place.{Place}
-use Rattle.field.specs.declared.Place.TheVariants.{At, Nowhere}
 use Rattle.field.specs.Vec.{null, origin, plus, minus, scale, over}
 use Rattle.field.specs.Count.{upto, field, lowest}
 use Rattle.field.specs.Buffer.{get, vector}
@@ -35,6 +34,16 @@ abbrev pub minus_one : Float
 minus_one = of_bits binary64 0xbff0000000000000
 
 -- ---- rows
+
+-- What the rows carry: their rays, weights and scales.
+pub record RowNumbers : Type 0 where
+  pub shape : Shape
+  pub rays : List Float
+  pub weights : List Float
+  pub scales : List Float
+
+abbrev pub row_numbers : Shape → List Float → List Float → List Float → RowNumbers
+row_numbers s rays weights scales = record { shape = s; rays = rays; weights = weights; scales = scales }
 
 -- (weight × scale) × scale
 abbrev pub effective_of : Float → Float → Float
@@ -189,9 +198,9 @@ degree_at ts c = (term_at ts c).degree
 unfoldable pub greatest : List CameraTerm → ℕ → ℕ → Bool
 greatest ts n c = lt minus_one (degree_at ts c) && none (λ k. lt (degree_at ts c) (degree_at ts k)) n
 
-abbrev pub or_zero : Place → ℕ
-or_zero (At c) = c
-or_zero Nowhere = 0
+abbrev pub or_zero : Option ℕ → ℕ
+or_zero (Some c) = c
+or_zero None = 0
 
 -- the greatest degree, the first on a tie, 0 if none exceeds -1
 unfoldable pub anchor_of : List CameraTerm → ℕ → ℕ

@@ -1,16 +1,15 @@
 -- The work buffer (document 01: 'T = 23n + 4m + B + E + d² + 3d doubles', 24n with R-11's count): its segments lie one after another, each from
 -- where the one before it ends.
+use Rattle.std.specs.Prelude.{Err, Ok, Result}
+use Rattle.network.specs.declared.Refusal.{Refusal}
 use Rattle.std.specs.Prelude.{ℕ, ◌+◌, ◌*◌, [], ◌∷◌, get_or}
 use Rattle.std.specs.Float.{nan}
 use Rattle.field.specs.Buffer.{Cell}
-use Rattle.network.specs.declared.Verdict.{Verdict}
-use Rattle.network.specs.declared.Verdict.TheVariants.{Refused, Passed}
+use Rattle.network.specs.Refusals.{Verdict}
 use Rattle.network.specs.declared.Shape.{Shape}
 use Rattle.network.specs.Network.{rows}
 use Rattle.network.specs.Refusals.{verdict, count_tests, dense_rows}
 use Rattle.system.specs.declared.CameraTerm.{CameraTerm}
-use Rattle.system.specs.declared.work.Length.{Length}
-use Rattle.system.specs.declared.work.Length.TheVariants.{Refused as NoLength, Of}
 
 -- a camera's term as six doubles
 abbrev pub term : Cell CameraTerm
@@ -74,9 +73,9 @@ work_length s route limit =
     24 * s.cameras + 4 * s.points + s.bearings + s.directions + d * d + 3 * d
 
 -- the length of the work buffer that a solve needs, where 1 and 2 pass
-abbrev pub length_if : Verdict → ℕ → Length
-length_if (Refused r) t = NoLength r
-length_if Passed t = Of t
+abbrev pub length_if : Verdict → ℕ → Result ℕ Refusal
+length_if (Err r) t = Err r
+length_if (Ok tt) t = Ok t
 
-unfoldable pub length_of : Shape → ℕ → ℕ → Length
+unfoldable pub length_of : Shape → ℕ → ℕ → Result ℕ Refusal
 length_of s route limit = length_if (verdict (count_tests s)) (work_length s route limit)

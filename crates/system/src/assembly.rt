@@ -3,17 +3,16 @@ ghost use Rattle.std.specs.Prelude.{◌≡◌, cond, ◌+◌, ◌<◌, ◌≤◌
 ghost use Rattle.std.specs.Float.Ieee.{lt};
 ghost use Rattle.field.specs.Buffer.{get, put, load, store};
 ghost use Rattle.network.specs.Network.{rows};
-ghost use Rattle.network.specs.inner.Sound.{EndsSound};
 ghost use Rattle.system.specs.System.{pull_in, sees, departs, arrives, add_bearing, add_direction, assemble_row, assemble_rows, terms_by, anchor_of};
 ghost use Rattle.system.specs.Work.{term, term_place, matrix_at};
-ghost use Rattle.system.specs.inner.Formed.{RowsThere, always, sums_in, added};
+ghost use Rattle.system.specs.inner.Formed.{always, sums_in, added};
 
+use crate::numbers::Rows;
 use crate::reads::{mean_offset, point_weight, row_weight};
 use crate::work::term_at;
-use crate::{get_term, pull, put_term};
+use crate::{get_term, put_term};
 use field::{Vec3, clear};
-use network::Shape;
-use network::links::{camera_of, point_of, target_of};
+use network::links::Ends;
 
 // A bearing added to the term of camera c.
 fn see(work: &mut [f64], c: usize, e: f64, w: f64, mean: Vec3, offset: Vec3)
@@ -44,13 +43,13 @@ fn arrive(work: &mut [f64], c: usize, e: f64, offset: Vec3)
 }
 
 // Bearing r, whose pull is `offset`, added to its camera's term. Its effective weight and the sums of its point stand in the buffer.
-fn add_bearing(s: Shape, ends: &[usize], work: &mut [f64], r: usize, offset: Vec3)
-    requires ends_sound { EndsSound s ends.now }
-    requires r_lt_bearings { (r < s.bearings) × (matrix_at s ≤ length work.old) }
-    ensures { work.new ≡ added s (always offset) (add_bearing ends.now r) work.old }
+fn add_bearing(ends: &Ends<'_>, work: &mut [f64], r: usize, offset: Vec3)
+    requires { (r < ends.now.shape.bearings) × (matrix_at ends.now.shape ≤ length work.old) }
+    ensures { work.new ≡ added ends.now.shape (always offset) (add_bearing ends.now.ends r) work.old }
 {
-    let c = camera_of(s, ends, r);
-    let p = point_of(s, ends, r);
+    let s = ends.shape();
+    let c = ends.camera(r);
+    let p = ends.point(r);
     let e = row_weight(s, work, r);
     let w = point_weight(s, work, p);
     let mean = mean_offset(s, work, p);
@@ -58,72 +57,53 @@ fn add_bearing(s: Shape, ends: &[usize], work: &mut [f64], r: usize, offset: Vec
 }
 
 // Direction r, whose pull is `offset`, added to its source's term, and then to its target's.
-fn add_direction(s: Shape, ends: &[usize], work: &mut [f64], r: usize, offset: Vec3)
-    requires ends_sound { EndsSound s ends.now }
-    requires bearings_le_r { (s.bearings ≤ r) × (r < rows s) × (matrix_at s ≤ length work.old) }
-    ensures { work.new ≡ added s (always offset) (add_direction ends.now r) work.old }
+fn add_direction(ends: &Ends<'_>, work: &mut [f64], r: usize, offset: Vec3)
+    requires { (ends.now.shape.bearings ≤ r) × (r < rows ends.now.shape) × (matrix_at ends.now.shape ≤ length work.old) }
+    ensures { work.new ≡ added ends.now.shape (always offset) (add_direction ends.now.ends r) work.old }
 {
-    let e = row_weight(s, work, r);
-    let source = camera_of(s, ends, r);
-    let target = target_of(s, ends, r);
+    let e = row_weight(ends.shape(), work, r);
+    let source = ends.camera(r);
+    let target = ends.target(r);
     depart(work, source, e, offset);
     arrive(work, target, e, offset);
 }
 
 // Row r, whose pull is `offset`.
-fn add_row(s: Shape, ends: &[usize], work: &mut [f64], r: usize, offset: Vec3)
-    requires ends_sound { EndsSound s ends.now }
-    requires r_bound { (r < rows s) × (matrix_at s ≤ length work.old) }
-    ensures { work.new ≡ added s (always offset) (assemble_row s ends.now r) work.old }
+fn add_row(ends: &Ends<'_>, work: &mut [f64], r: usize, offset: Vec3)
+    requires { (r < rows ends.now.shape) × (matrix_at ends.now.shape ≤ length work.old) }
+    ensures { work.new ≡ added ends.now.shape (always offset) (assemble_row ends.now.shape ends.now.ends r) work.old }
 {
-    if r < s.bearings {
-        add_bearing(s, ends, work, r, offset);
+    if r < ends.shape().bearings {
+        add_bearing(ends, work, r, offset);
     } else {
-        add_direction(s, ends, work, r, offset);
+        add_direction(ends, work, r, offset);
     }
 }
 
 // What all rows add, in row order.
-fn assemble_rows(
-    s: Shape,
-    ends: &[usize],
-    rays: &[f64],
-    weights: &[f64],
-    scales: &[f64],
-    work: &mut [f64],
-)
-    requires ends_sound { EndsSound s ends.now }
-    requires rows_there { RowsThere s rays.now weights.now scales.now }
-    requires s_in_bounds { matrix_at s ≤ length work.old }
-    ensures { work.new ≡ added s (pull_in rays.now weights.now scales.now)
-        (assemble_rows s ends.now (rows s)) work.old }
+fn assemble_rows(numbers: &Rows<'_>, ends: &Ends<'_>, work: &mut [f64])
+    requires same_shape { numbers.now.shape ≡ ends.now.shape }
+    requires s_in_bounds { matrix_at ends.now.shape ≤ length work.old }
+    ensures { work.new ≡ added ends.now.shape (pull_in numbers.now.rays numbers.now.weights numbers.now.scales)
+        (assemble_rows ends.now.shape ends.now.ends (rows ends.now.shape)) work.old }
 {
-    let count = s.bearings + s.directions;
-    let mut r = 0usize;
-    while r < count {
-        let offset = pull(rays, weights, scales, r);
-        add_row(s, ends, work, r, offset);
-        r += 1;
+    let s = ends.shape();
+    for r in 0..s.bearings + s.directions {
+        let offset = numbers.pull(r);
+        add_row(ends, work, r, offset);
     }
 }
 
 // The terms of all cameras: the Rust's `assemble_camera_system`.
-pub(crate) fn assemble(
-    s: Shape,
-    ends: &[usize],
-    rays: &[f64],
-    weights: &[f64],
-    scales: &[f64],
-    work: &mut [f64],
-)
-    requires ends_sound { EndsSound s ends.now }
-    requires rows_there { RowsThere s rays.now weights.now scales.now }
-    requires s_in_bounds { matrix_at s ≤ length work.old }
+pub(crate) fn assemble(numbers: &Rows<'_>, ends: &Ends<'_>, work: &mut [f64])
+    requires same_shape { numbers.now.shape ≡ ends.now.shape }
+    requires s_in_bounds { matrix_at ends.now.shape ≤ length work.old }
     ensures { work.new ≡ store term work.old 0
-        (terms_by s ends.now (sums_in s (pull_in rays.now weights.now scales.now) work.old)) }
+        (terms_by ends.now.shape ends.now.ends
+        (sums_in ends.now.shape (pull_in numbers.now.rays numbers.now.weights numbers.now.scales) work.old)) }
 {
-    clear(work, term_at(s.cameras));
-    assemble_rows(s, ends, rays, weights, scales, work);
+    clear(work, term_at(ends.shape().cameras), 0.0);
+    assemble_rows(numbers, ends, work);
 }
 
 // The best camera so far, and its degree.
@@ -157,10 +137,8 @@ pub(crate) fn pick_anchor(work: &[f64], n: usize) -> usize
         camera: 0,
         degree: -1.0,
     };
-    let mut c = 0usize;
-    while c < n {
+    for c in 0..n {
         best = best.or(c, get_term(work, c).degree);
-        c += 1;
     }
     best.camera
 }

@@ -2,6 +2,7 @@
 #![tactic(auto)]
 
 mod assembly;
+pub mod numbers;
 pub mod points;
 pub mod reads;
 pub mod work;
@@ -17,6 +18,8 @@ ghost use Rattle.system.specs.inner.Formed.{RowsThere, Formed};
 use assembly::{assemble, pick_anchor};
 use field::{Vec3, get3, put3};
 use network::Shape;
+use network::links::Links;
+use numbers::Rows;
 use points::{fill_effective, sum_points};
 use work::term_at;
 
@@ -145,8 +148,10 @@ pub fn form(
         (sums_from rays.now weights.now scales.now offsets.now listed.now)
         work.old work.new result }
 {
-    fill_effective(s, weights, scales, work);
-    sum_points(s, rays, weights, scales, offsets, listed, work);
-    assemble(s, ends, rays, weights, scales, work);
+    let links = Links::new(s, ends, offsets, listed);
+    let rows = Rows::new(s, rays, weights, scales);
+    fill_effective(&rows, work);
+    sum_points(&rows, &links, work);
+    assemble(&rows, links.ends(), work);
     pick_anchor(work, s.cameras)
 }

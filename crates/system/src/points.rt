@@ -2,31 +2,30 @@
 ghost use Rattle.std.specs.Prelude.{◌≡◌, ◌+◌, ◌*◌, ◌<◌, ◌≤◌, length, set};
 ghost use Rattle.field.specs.Count.{field};
 ghost use Rattle.field.specs.Buffer.{put, store, number, vector};
-ghost use Rattle.network.specs.Network.{rows, span_of};
-ghost use Rattle.network.specs.inner.Sound.{ShapeSound, OffsetsSound, ListedSound};
+ghost use Rattle.network.specs.Network.{rows};
+ghost use Rattle.network.specs.inner.Sound.{ShapeSound, ListedSound};
 ghost use Rattle.system.specs.System.{effective_in, pull_in, weight_sum, pull_sum, mean_of, sums_from};
 ghost use Rattle.system.specs.Work.{weights_at, means_at, effective_at, matrix_at};
-ghost use Rattle.system.specs.inner.Formed.{RowsThere, point_stored, summed};
+ghost use Rattle.system.specs.inner.Formed.{point_stored, summed};
 
+use crate::effective;
+use crate::numbers::Rows;
 use crate::work::{effective_at, means_at, weights_at};
-use crate::{effective, pull};
 use field::{Vec3, put3, zero};
-use network::links::{listed_at, span_of};
+use network::links::{Links, listed_at};
 use network::{Shape, Span};
 
 // The effective weights of all rows, in their segment (formed at the end of the Rust's `update_robust_weights`).
-pub(crate) fn fill_effective(s: Shape, weights: &[f64], scales: &[f64], work: &mut [f64])
-    requires shape_sound { ShapeSound s }
-    requires s_in_bounds { (rows s ≤ length weights.now) × (rows s ≤ length scales.now) × (matrix_at s ≤ length work.old) }
-    ensures { work.new ≡ store number work.old (effective_at s)
-        (field (rows s) (effective_in weights.now scales.now)) }
+pub(crate) fn fill_effective(numbers: &Rows<'_>, work: &mut [f64])
+    requires shape_sound { ShapeSound numbers.now.shape }
+    requires s_in_bounds { matrix_at numbers.now.shape ≤ length work.old }
+    ensures { work.new ≡ store number work.old (effective_at numbers.now.shape)
+        (field (rows numbers.now.shape) (effective_in numbers.now.weights numbers.now.scales)) }
 {
+    let s = numbers.shape();
     let into = effective_at(s);
-    let count = s.bearings + s.directions;
-    let mut i = 0usize;
-    while i < count {
-        work[into + i] = effective(weights, scales, i);
-        i += 1;
+    for r in 0..s.bearings + s.directions {
+        work[into + r] = numbers.effective(r);
     }
 }
 
@@ -37,14 +36,10 @@ pub fn point_weight(s: Shape, weights: &[f64], scales: &[f64], listed: &[usize],
     requires size_bound { k.first + k.size ≤ s.bearings }
     ensures { result ≡ weight_sum (effective_in weights.now scales.now) listed.now k }
 {
-    let first = k.first;
-    let size = k.size;
     let mut sum = 0.0;
-    let mut i = 0usize;
-    while i < size {
-        let r = listed_at(s, listed, first + i);
+    for i in 0..k.size {
+        let r = listed_at(s, listed, k.first + i);
         sum += effective(weights, scales, r);
-        i += 1;
     }
     sum
 }
@@ -57,30 +52,20 @@ struct ListSums {
 }
 
 // Both sums over the rows at the places k of the lists, in one pass.
-fn list_sums(
-    s: Shape,
-    rays: &[f64],
-    weights: &[f64],
-    scales: &[f64],
-    listed: &[usize],
-    k: Span,
-) -> ListSums
-    requires listed_sound { ListedSound s.bearings listed.now }
-    requires rows_there { RowsThere s rays.now weights.now scales.now }
-    requires size_bound { k.first + k.size ≤ s.bearings }
-    ensures weight_value { result.weight ≡ weight_sum (effective_in weights.now scales.now) listed.now k }
-    ensures pull_value { result.pull ≡ pull_sum (pull_in rays.now weights.now scales.now) listed.now k }
+fn list_sums(numbers: &Rows<'_>, links: &Links<'_>, k: Span) -> ListSums
+    requires shape_sound { ShapeSound links.now.shape }
+    requires same_shape { numbers.now.shape ≡ links.now.shape }
+    requires size_bound { k.first + k.size ≤ links.now.shape.bearings }
+    ensures weight_value { result.weight ≡ weight_sum (effective_in numbers.now.weights numbers.now.scales) links.now.listed k }
+    ensures pull_value { result.pull ≡ pull_sum (pull_in numbers.now.rays numbers.now.weights numbers.now.scales)
+        links.now.listed k }
 {
-    let first = k.first;
-    let size = k.size;
     let mut weight = 0.0;
     let mut sum = zero();
-    let mut i = 0usize;
-    while i < size {
-        let r = listed_at(s, listed, first + i);
-        weight += effective(weights, scales, r);
-        sum = sum.add(pull(rays, weights, scales, r));
-        i += 1;
+    for i in 0..k.size {
+        let r = links.listed(k.first + i);
+        weight += numbers.effective(r);
+        sum = sum.add(numbers.pull(r));
     }
     ListSums {
         weight: weight,
@@ -114,25 +99,15 @@ struct PointSums {
 }
 
 // The sums of point p.
-fn sum_point(
-    s: Shape,
-    rays: &[f64],
-    weights: &[f64],
-    scales: &[f64],
-    offsets: &[usize],
-    listed: &[usize],
-    p: usize,
-) -> PointSums
-    requires offsets_sound { OffsetsSound s.points s.bearings offsets.now }
-    requires listed_sound { ListedSound s.bearings listed.now }
-    requires rows_there { RowsThere s rays.now weights.now scales.now }
-    requires p_lt_points { p < s.points }
-    ensures { let S = sums_from rays.now weights.now scales.now offsets.now
-        listed.now in
+fn sum_point(numbers: &Rows<'_>, links: &Links<'_>, p: usize) -> PointSums
+    requires shape_sound { ShapeSound links.now.shape }
+    requires same_shape { numbers.now.shape ≡ links.now.shape }
+    requires p_lt_points { p < links.now.shape.points }
+    ensures { let S = sums_from numbers.now.rays numbers.now.weights numbers.now.scales
+        links.now.offsets links.now.listed in
         result ≡ record { weight = S.weights.point p; mean = S.mean p } }
 {
-    let k = span_of(s, offsets, p);
-    let t = list_sums(s, rays, weights, scales, listed, k);
+    let t = list_sums(numbers, links, links.span(p));
     PointSums {
         weight: t.weight,
         mean: mean_offset(t.weight, t.pull),
@@ -140,52 +115,29 @@ fn sum_point(
 }
 
 // The sums of point p, stored.
-fn store_point(
-    s: Shape,
-    rays: &[f64],
-    weights: &[f64],
-    scales: &[f64],
-    offsets: &[usize],
-    listed: &[usize],
-    work: &mut [f64],
-    p: usize,
-)
-    requires shape_sound { ShapeSound s }
-    requires offsets_sound { OffsetsSound s.points s.bearings offsets.now }
-    requires listed_sound { ListedSound s.bearings listed.now }
-    requires rows_there { RowsThere s rays.now weights.now scales.now }
-    requires p_lt_points { (p < s.points) × (matrix_at s ≤ length work.old) }
-    ensures { work.new ≡ point_stored s
-        (sums_from rays.now weights.now scales.now offsets.now listed.now)
+fn store_point(numbers: &Rows<'_>, links: &Links<'_>, work: &mut [f64], p: usize)
+    requires same_shape { numbers.now.shape ≡ links.now.shape }
+    requires p_lt_points { (p < links.now.shape.points) × (matrix_at links.now.shape ≤ length work.old) }
+    ensures { work.new ≡ point_stored links.now.shape
+        (sums_from numbers.now.rays numbers.now.weights numbers.now.scales
+        links.now.offsets links.now.listed)
         p work.old }
 {
-    let t = sum_point(s, rays, weights, scales, offsets, listed, p);
+    let s = links.shape();
+    let t = sum_point(numbers, links, p);
     put_sums(s, work, p, t);
 }
 
 // The weights and the mean offsets of all points: the Rust's `update_point_statistics`.
-pub(crate) fn sum_points(
-    s: Shape,
-    rays: &[f64],
-    weights: &[f64],
-    scales: &[f64],
-    offsets: &[usize],
-    listed: &[usize],
-    work: &mut [f64],
-)
-    requires shape_sound { ShapeSound s }
-    requires offsets_sound { OffsetsSound s.points s.bearings offsets.now }
-    requires listed_sound { ListedSound s.bearings listed.now }
-    requires rows_there { RowsThere s rays.now weights.now scales.now }
-    requires s_in_bounds { matrix_at s ≤ length work.old }
-    ensures { work.new ≡ summed s
-        (sums_from rays.now weights.now scales.now offsets.now listed.now)
-        work.old s.points }
+pub(crate) fn sum_points(numbers: &Rows<'_>, links: &Links<'_>, work: &mut [f64])
+    requires same_shape { numbers.now.shape ≡ links.now.shape }
+    requires s_in_bounds { matrix_at links.now.shape ≤ length work.old }
+    ensures { work.new ≡ summed links.now.shape
+        (sums_from numbers.now.rays numbers.now.weights numbers.now.scales
+        links.now.offsets links.now.listed)
+        work.old links.now.shape.points }
 {
-    let m = s.points;
-    let mut p = 0usize;
-    while p < m {
-        store_point(s, rays, weights, scales, offsets, listed, work, p);
-        p += 1;
+    for p in 0..links.shape().points {
+        store_point(numbers, links, work, p);
     }
 }

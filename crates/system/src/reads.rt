@@ -1,11 +1,8 @@
 // What is read of the work buffer once the sums stand there.
 ghost use Rattle.std.specs.Prelude.{◌≡◌, ◌+◌, ◌*◌, ◌<◌, ◌≤◌, length};
-ghost use Rattle.std.specs.Float.Ieee.{lt};
 ghost use Rattle.field.specs.Buffer.{get, load, vector};
-ghost use Rattle.field.specs.Count.{indicator};
 ghost use Rattle.network.specs.Network.{rows};
 ghost use Rattle.network.specs.inner.Sound.{ShapeSound};
-ghost use Rattle.system.specs.System.{two};
 ghost use Rattle.system.specs.Work.{term, term_place, means_at, matrix_at};
 ghost use Rattle.system.specs.inner.Formed.{few_in, weights_in};
 
@@ -43,23 +40,14 @@ pub(crate) fn mean_offset(s: Shape, work: &[f64], p: usize) -> Vec3
     get3(work, means_at(s) + 3 * p)
 }
 
-// 1 for a count under 2, else 0.
-fn under_two(count: f64) -> usize
-    ensures { (result ≡ indicator (lt count two)) × (result ≤ 1) }
-{
-    if count < 2.0 { 1 } else { 0 }
-}
-
 // How many of n cameras have a count under 2.
 pub fn count_few(work: &[f64], n: usize) -> usize
     requires { (n ≤ 4096) × (term_place n ≤ length work.now) }
     ensures { result ≡ few_in (load term work.now 0 n) n }
 {
     let mut few = 0usize;
-    let mut c = 0usize;
-    while c < n {
-        few += under_two(get_term(work, c).count);
-        c += 1;
+    for c in 0..n {
+        few += usize::from(get_term(work, c).count < 2.0);
     }
     few
 }

@@ -5,14 +5,7 @@ ghost use Rattle.system.specs.Work.{term_place, positions_at, right_at, residual
 ghost use Rattle.system.specs.Work.{weights_at, means_at, effective_at, matrix_at, dense_right_at, work_end, work_length, length_of};
 
 use network::route::dense_rows;
-use network::{Refusal, Shape, Verdict, check_counts};
-
-// The length of a work buffer.
-#[derive(Clone, Copy)]
-pub enum Length {
-    Refused(Refusal),
-    Of(usize),
-}
+use network::{Refusal, Shape, check_counts};
 
 // The term of camera c.
 pub fn term_at(c: usize) -> usize
@@ -123,12 +116,9 @@ pub fn work_needed(s: Shape, route: usize, limit: usize) -> usize
 }
 
 // The doubles that a solve's work buffer needs: T = 24n + 4m + B + E + d² + 3d.
-pub fn work_length(s: Shape, route: usize, limit: usize) -> Length
+pub fn work_length(s: Shape, route: usize, limit: usize) -> Result<usize, Refusal>
     ensures { result ≡ length_of s route limit }
 {
-    let counts = check_counts(s);
-    if let Verdict::Refused(r) = counts {
-        return Length::Refused(r);
-    }
-    Length::Of(work_needed(s, route, limit))
+    check_counts(s)?;
+    Ok(work_needed(s, route, limit))
 }

@@ -70,10 +70,10 @@ vectors-more l m n p q r tag s i v a e c =
     rw (t, numbered-append, zero-add, length-load vector s 0 i) in
     rw d (put_two a c (omega arith))
 
-pub vectors-all : (l m : List ℕ) (p q tag : ℕ) (s : List Float) (i n : ℕ) →
-    Put l m p (vector_lines tag (load vector s 0 i)) (74 * i) q → n ≡ length s / 3 → i ≤ n → n ≤ i → Put l m p (vector_lines tag (vectors_in s)) (74 * n) q
+pub vectors-all : (l m : List ℕ) (p q tag : ℕ) (s : List Float) (i : ℕ) →
+    Put l m p (vector_lines tag (load vector s 0 i)) (74 * i) q → i ≤ length s / 3 → length s / 3 ≤ i → Put l m p (vector_lines tag (vectors_in s)) (74 * (length s / 3)) q
 unfolding vectors_in
-vectors-all l m p q tag s i n a e h k = let d : i ≡ length s / 3 = omega arith in rw (← e) (rw (d, ← e) at a)
+vectors-all l m p q tag s i a h k = let d : i ≡ length s / 3 = omega arith in rw d at a
 
 -- the line of the counts, as two pairs of numbers and a newline
 pub counts-put : (l l₁ l₂ l₃ : List ℕ) (p p₁ p₂ p₃ : ℕ) (a b c d e : List ℕ) →

@@ -3,15 +3,15 @@ use mathlib.Core.Path.{◌≡◌, refl, sym, ap, subst, ◌∙◌}
 use mathlib.Core.List.{List, [], ◌∷◌, ◌++◌}
 use Prim.Native.Nat.{ℕ, ◌+◌, ◌-◌, ◌*◌, ◌/◌, ◌≤◌, ◌<◌}
 use native.Mathlib.Nat.{add-zero}
-use native.Mathlib.Numerals.{add-one}
 use native.Mathlib.Omega.{arith}
 use mathlib.Core.Bool.{Bool, true, false}
 use lib.Dec.{leb}
 use borrow.Author.Tests.{le-leb, lt-leb, leb-true, leb-false}
-use lib.ListN.{length, get_or, set, take, length-append}
-use lib.Seq.{take-suc, take-length, length-take-le}
+use lib.ListN.{length, set, length-append}
+use lib.Seq.{drop-drop}
 use Rattle.field.specs.Buffer.{write}
-use Rattle.field.proofs.Buffers.{write-append, set-write}
+use Rattle.field.proofs.Buffers.{write-append, write-split, set-write}
+use borrow.Rule.Slice.PartMut.{put_mid}
 use Rattle.text.specs.Lent.{Written, Put}
 
 -- nothing put
@@ -46,24 +46,11 @@ put_as {l} {m} {p} {r} {j} {k} {xs} {ys} a e h =
     let n : length xs ≡ length ys = ap length e in
     record { written = subst (λ (t : List ℕ). Written l m p t r) e a.written; within = omega (arith, a.written.next) }
 
--- a copy of the first i bytes of s: none, one more, and all
-pub copy-none : (l : List ℕ) (p : ℕ) (s : List ℕ) → l ≡ write l p (take 0 s)
-unfolding write
-copy-none l p s = refl
-
-pub copy_more : (l m : List ℕ) (p : ℕ) (s : List ℕ) (i : ℕ) → m ≡ write l p (take i s) → i < length s →
-    set m (p + i) (get_or s i 0) ≡ write l p (take (i + 1) s)
-copy_more l m p s i e h =
-    let n : length (take i s) ≡ i = length-take-le i s (omega arith) in
-    rw (add-one, e, take-suc s i 0 h)
-    (set-write (write l p (take i s)) (p + i) (get_or s i 0)
-    ∙ subst (λ (k : ℕ). write (write l p (take i s)) (p + k) (get_or s i 0 ∷ []) ≡ write l p (take i s ++ (get_or s i 0 ∷ []))) n
-    (write-append l p (take i s) (get_or s i 0 ∷ [])))
-
-pub copied : (l m : List ℕ) (p : ℕ) (s : List ℕ) (i : ℕ) → m ≡ write l p (take i s) → i ≤ length s → length s ≤ i → Put l m p s (length s) (p + i)
-copied l m p s i e h k =
-    let n : i ≡ length s = omega arith in
-    record { written = record { bytes = e ∙ rw (n, take-length s); next = ap (λ (j : ℕ). p + j) n }; within = omega arith }
+-- a copy of s, as a part of the buffer that came back as ys
+pub copied : (l ys s : List ℕ) (p : ℕ) → ys ≡ s → p + length s ≤ length l → Put l (put_mid p (p + length s - p) l ys) p s (length s) (p + length s)
+copied l ys s p e h =
+    let n : p + length s - p ≡ length s = omega arith in
+    record { written = record { bytes = rw (e, n, drop-drop) (sym (write-split l p s h)); next = refl }; within = omega arith }
 
 -- the test for room, by a quotient that cannot wrap
 pub room_for : (v n : ℕ) → 256 ≤ n → leb v ((n - 256) / 74) ≡ leb (256 + 74 * v) n

@@ -1,8 +1,8 @@
 -- How a text stands in a lent buffer of bytes. The contracts of the entry points `put_placed` and `put_refused` cite it.
 use Rattle.std.specs.Prelude.{◌≡◌, List, [], cond, ℕ, ◌+◌, ◌*◌, ◌/◌, ◌≤◌, leb, length, Float}
 use Rattle.field.specs.Buffer.{write, vectors_in}
-use Rattle.text.specs.declared.Counts.{Counts}
-use Rattle.text.specs.declared.Report.{Report}
+use Rattle.network.specs.declared.Shape.{Shape}
+use Rattle.placement.specs.declared.Report.{Report}
 use Rattle.text.specs.Text.{placed_text}
 
 -- The text stands in the buffer from place p on, every other byte is as it was, and r is the place after the text.
@@ -28,7 +28,7 @@ abbrev pub PutIfRoom : (before after : List ℕ) → (vectors : ℕ) → (text :
 PutIfRoom before after vectors text r = Put before after 0 (fitting vectors before text) (length before) r
 
 -- What `put_placed` promises: c has the numbers of the line of the counts, p those of the report, and cs and ps hold the vectors' numbers.
-abbrev pub PutPlaced : (c : Counts) (parts : ℕ) (p : Report) (cs ps : List Float) → (before after : List ℕ) → (r : ℕ) → Type 0
+abbrev pub PutPlaced : (c : Shape) (parts : ℕ) (p : Report) (cs ps : List Float) → (before after : List ℕ) → (r : ℕ) → Type 0
 PutPlaced c parts p cs ps before after r =
     PutIfRoom before after (length cs / 3 + length ps / 3)
     (placed_text c.cameras c.points c.bearings c.directions parts p.anchor p.route p.rounds p.few

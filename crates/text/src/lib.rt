@@ -9,24 +9,8 @@ ghost use Rattle.text.specs.inner.Steps.{PutPair, PutNumberLine, counts_of, repo
 
 use double::to_bits;
 use field::{Vec3, get3};
-
-// The numbers of the first line.
-#[derive(Clone, Copy)]
-pub struct Counts {
-    pub cameras: usize,
-    pub points: usize,
-    pub bearings: usize,
-    pub directions: usize,
-}
-
-// The numbers of the line of the report, and that of the line after it: how many cameras have a count of rows under 2.
-#[derive(Clone, Copy)]
-pub struct Report {
-    pub anchor: usize,
-    pub route: usize,
-    pub rounds: usize,
-    pub few: usize,
-}
+use network::Shape;
+use placement::Report;
 
 // A byte. Each `put_` writes from place `at` on, and answers the place after what it wrote.
 fn put_byte(out: &mut [u8], at: usize, x: u8) -> usize
@@ -42,12 +26,9 @@ fn put_bytes(out: &mut [u8], at: usize, src: &[u8]) -> usize
     requires { at + length src.now ≤ length out.old }
     ensures { Put out.old out.new at src.now (length src.now) result }
 {
-    let mut i = 0usize;
-    while i < src.len() {
-        out[at + i] = src[i];
-        i += 1;
-    }
-    at + i
+    let next = at + src.len();
+    out[at..next].copy_from_slice(src);
+    next
 }
 
 // A digit below 16 as a byte.
@@ -148,18 +129,15 @@ fn put_vectors(out: &mut [u8], at: usize, tag: u8, s: &[f64]) -> usize
     requires { at + line_room s.now ≤ length out.old }
     ensures { Put out.old out.new at (vector_lines tag (vectors_in s.now)) (line_room s.now) result }
 {
-    let n = s.len() / 3;
     let mut next = at;
-    let mut i = 0usize;
-    while i < n {
+    for i in 0..s.len() / 3 {
         next = put_vector_line(out, next, tag, i, get3(s, 3 * i));
-        i += 1;
     }
     next
 }
 
 // The line of the counts.
-fn put_counts(out: &mut [u8], at: usize, counts: Counts) -> usize
+fn put_counts(out: &mut [u8], at: usize, counts: Shape) -> usize
     requires { at + 119 ≤ length out.old }
     ensures { Put out.old out.new at (counts_of counts) 119 result }
 {
@@ -193,7 +171,7 @@ fn put_report(out: &mut [u8], at: usize, report: Report) -> usize
 }
 
 // The lines above those of the vectors.
-fn put_head(out: &mut [u8], at: usize, counts: Counts, parts: usize, report: Report) -> usize
+fn put_head(out: &mut [u8], at: usize, counts: Shape, parts: usize, report: Report) -> usize
     requires { at + 254 ≤ length out.old }
     ensures { Put out.old out.new at (head_of counts parts report) 254 result }
 {
@@ -205,7 +183,7 @@ fn put_head(out: &mut [u8], at: usize, counts: Counts, parts: usize, report: Rep
 
 // All lines of a solve that is not refused, where there is room for them.
 fn put_lines(
-    counts: Counts,
+    counts: Shape,
     parts: usize,
     report: Report,
     cameras: &[f64],
@@ -239,7 +217,7 @@ fn has_room(vectors: usize, out: &[u8]) -> bool
 // What a solve that is not refused prints, at the front of `out`. `cameras` and `points` hold three numbers for each.
 // The answer is the number of bytes written: 0, and `out` stays as it was, where it is shorter than 256 bytes and 74 for each vector.
 pub fn put_placed(
-    counts: Counts,
+    counts: Shape,
     parts: usize,
     report: Report,
     cameras: &[f64],

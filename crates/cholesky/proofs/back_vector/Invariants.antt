@@ -1,4 +1,4 @@
-use Prim.Native.Nat.{◌*◌, ◌-◌, ◌<◌, ◌≤◌, suc}
+use Prim.Native.Nat.{◌*◌, ◌-◌, suc}
 use Rattle.cholesky.specs.Cholesky.{back_step}
 use Rattle.field.specs.Buffer.{load, vector}
 use Rattle.field.specs.Count.{upto}
@@ -7,8 +7,4 @@ use mathlib.Core.Path.{◌≡◌}
 use Rattle.cholesky.proofs.back_vector.Given as goal
 
 abbrev pub invariant-loop-k : goal.invariant-loop-k
-invariant-loop-k l =
-    (l.i < l.k) × (l.k ≤ l.d) × (l.v ≡ upto (back_step l.d (take (l.d * l.d) l.s) (load vector l.s (l.d * l.d) l.d) l.i) (l.k - suc l.i) l.initial.v)
-
-abbrev pub decreases-loop-k : goal.decreases-loop-k
-decreases-loop-k l = l.d - l.k
+invariant-loop-k l = l.v ≡ upto (back_step l.d (take (l.d * l.d) l.s) (load vector l.s (l.d * l.d) l.d) l.i) (l.k - suc l.i) l.initial.v

@@ -1,4 +1,4 @@
-use Prim.Native.Nat.{◌*◌, ◌-◌, ◌≤◌}
+use Prim.Native.Nat.{◌*◌}
 use Rattle.cholesky.specs.Cholesky.{forward_step}
 use Rattle.field.specs.Buffer.{load, vector}
 use Rattle.field.specs.Count.{upto}
@@ -7,8 +7,4 @@ use mathlib.Core.Path.{◌≡◌}
 use Rattle.cholesky.proofs.forward_vector.Given as goal
 
 abbrev pub invariant-loop-k : goal.invariant-loop-k
-invariant-loop-k l =
-    (l.k ≤ l.i) × (l.v ≡ upto (forward_step l.d (take (l.d * l.d) l.s) (load vector l.s (l.d * l.d) l.d) l.i) l.k l.initial.v)
-
-abbrev pub decreases-loop-k : goal.decreases-loop-k
-decreases-loop-k l = l.i - l.k
+invariant-loop-k l = l.v ≡ upto (forward_step l.d (take (l.d * l.d) l.s) (load vector l.s (l.d * l.d) l.d) l.i) l.k l.initial.v

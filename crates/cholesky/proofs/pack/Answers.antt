@@ -1,12 +1,8 @@
-use Rattle.cholesky.proofs.Updates.{packed-ended, packed_more, packed_none}
+use mathlib.Core.Path.{◌≡◌}
+use lib.ListN.{length}
 use native.Mathlib.Omega.{arith}
+use Rattle.cholesky.proofs.Updates.{packed_more}
 use Rattle.cholesky.proofs.pack.Goals as goal
 
-pub loop-t-init : goal.loop-t-init
-loop-t-init c = (omega arith, omega arith, search packed_none)
-
 pub loop-t-preserved : goal.loop-t-preserved
-loop-t-preserved c = (omega arith, omega arith, search packed_more)
-
-pub returns : goal.returns
-returns c = search packed-ended
+loop-t-preserved c = let h : length c.loop-t.p ≡ 1024 = omega arith in search packed_more

@@ -1,6 +1,6 @@
 -- Inner vocabulary of the factor: its stages as the code makes them, four columns at a time. No entry point's contract names it.
 -- s is the matrix at entry, A and B the matrix before and after a stage; l has what the factor's cells are when no test stops it.
-use Rattle.std.specs.Prelude.{ℕ, zero, suc, ◌+◌, ◌*◌, ◌≤◌, ◌<◌, ◌≡◌, List, Bool, true, cond, ◌&&◌, length, get_or, set, Float}
+use Rattle.std.specs.Prelude.{ℕ, zero, suc, ◌+◌, ◌*◌, ◌≤◌, ◌<◌, ◌≡◌, List, Bool, true, cond, ◌&&◌, length, get_or, set, Float, Result, Ok, Err}
 use Rattle.std.specs.Float.{nan, binary64}
 use Rattle.std.specs.Float.Ieee.{sub, mul, div, lt}
 use Rattle.std.specs.Float.Ieee.Scale.{finite}
@@ -8,9 +8,9 @@ use Rattle.field.specs.Vec.{null}
 use Rattle.field.specs.Count.{upto}
 use Rattle.sqrt.specs.Root.{root}
 use Rattle.cholesky.specs.declared.Four.{Four}
-use Rattle.cholesky.specs.declared.Solve.{Solve}
-use Rattle.cholesky.specs.declared.Solve.TheVariants.{Done, Stopped}
-use Rattle.cholesky.specs.Cholesky.{Result, stopped, ended, entry, inner_step, factor}
+use Rattle.cholesky.specs.declared.Breakdown.{Breakdown}
+use Rattle.cholesky.specs.declared.Breakdown.TheVariants.{Factor}
+use Rattle.cholesky.specs.Cholesky.{ended, entry, inner_step, factor}
 
 -- ---- four neighbouring columns
 
@@ -123,7 +123,7 @@ module _ (d : ℕ) where
     pub value : (u : Float) → entry d A i c ≡ reduced A i c from u → v ≡ reduced A i c k u
 
   -- r and B are what the step f makes of A with the cell in row i and column c as it was before its first k products were taken off
-  pub record Continues (f : List Float → Result (List Float)) (A : List Float) (i c k : ℕ) (r : Solve) (B : List Float) : Type 0 where
+  pub record Continues (f : List Float → Result (List Float) Breakdown) (A : List Float) (i c k : ℕ) (r : Result (Unit {0}) Breakdown) (B : List Float) : Type 0 where
     pub answer : (u : Float) → entry d A i c ≡ reduced A i c k u → ended r B ≡ f (set A (i * d + c) u)
 
   -- the rows before n are l's
@@ -134,9 +134,9 @@ module _ (d : ℕ) where
   abbrev pub RowFinite : List Float → ℕ → ℕ → Type 0
   RowFinite l i k = (c : ℕ) → c < k → finite (entry d l i c) ≡ true
 
-  -- a refusal that r tells is the factor's
-  abbrev pub Refuses : List Float → Solve → Type 0
-  Refuses s r = (n q : ℕ) → r ≡ Stopped n q → stopped n q ≡ factor d s
+  -- a breakdown that r tells is the factor's
+  abbrev pub Refuses : {A : Type 0} → List Float → Result A Breakdown → Type 0
+  Refuses s r = (b : Breakdown) → r ≡ Err b → Err b ≡ factor d s
 
 -- l's cells are what the factor of s has, whether or not a test stops it
 pub record FactorCells (d : ℕ) (s l : List Float) : Type 0 where
@@ -178,8 +178,8 @@ module _ (d : ℕ) (s l : List Float) where
     pub rest : Outside d (λ (m c : ℕ). (m ≡ i) × (c ≤ i)) A B
 
   -- what the answer r says
-  pub record RowEnds (r : Solve) (A B : List Float) (i : ℕ) : Type 0 where
-    pub done : r ≡ Done → RowDone A B i
+  pub record RowEnds (r : Result (Unit {0}) Breakdown) (A B : List Float) (i : ℕ) : Type 0 where
+    pub done : r ≡ Ok tt → RowDone A B i
     pub stops : Refuses d s r
 
   -- ---- the rows `from` to `to` - 1, from column `from` on
@@ -198,8 +198,8 @@ module _ (d : ℕ) (s l : List Float) where
     pub rest : Outside d (λ (m c : ℕ). (m < i) × (c ≤ m)) A B
 
   -- what the answer r says
-  pub record RowsEnd (r : Solve) (A B : List Float) (to : ℕ) : Type 0 where
-    pub done : r ≡ Done → RowsDone A B to
+  pub record RowsEnd (r : Result (Unit {0}) Breakdown) (A B : List Float) (to : ℕ) : Type 0 where
+    pub done : r ≡ Ok tt → RowsDone A B to
     pub stops : Refuses d s r
 
   -- ---- the panel: the columns j to j + 3 of the rows below their pivots
@@ -220,7 +220,7 @@ module _ (d : ℕ) (s l : List Float) where
 
   -- row r is refused unless a row above it is
   abbrev pub Refused : ℕ → Type 0
-  Refused r = Passed r r → stopped 16 r ≡ factor d s
+  Refused r = Passed r r → Err (Factor r) ≡ factor d s
 
   -- what the answer r, the first row that is not made, says
   pub record PanelEnds (B : List Float) (j rows r : ℕ) : Type 0 where
@@ -231,11 +231,11 @@ module _ (d : ℕ) (s l : List Float) where
 
 module _ (d : ℕ) where
   -- finish_row
-  pub record RowFinished (A B : List Float) (i from : ℕ) (r : Solve) : Type 0 where
+  pub record RowFinished (A B : List Float) (i from : ℕ) (r : Result (Unit {0}) Breakdown) : Type 0 where
     pub ends : (s l : List Float) → RowReady d s l A i from → RowEnds d s l r A B i
 
   -- finish_rows
-  pub record RowsFinished (A B : List Float) (from to : ℕ) (r : Solve) : Type 0 where
+  pub record RowsFinished (A B : List Float) (from to : ℕ) (r : Result (Unit {0}) Breakdown) : Type 0 where
     pub ends : (s l : List Float) → RowsReady d s l A from to → RowsEnd d s l r A B to
 
   -- panel_row: x are row i's quotients, stored if they are finite
@@ -275,13 +275,13 @@ module _ (d : ℕ) where
   pub record Reached (s B : List Float) (rows j : ℕ) : Type 0 where
     pub stage : (l : List Float) → FactorCells d s l → Stage s l B rows j
 
-  -- four_columns: r tells how they end, n the first row that is not made
-  pub record ColumnsEnd (A B : List Float) (j rows : ℕ) (r : Solve) (n : ℕ) : Type 0 where
-    pub low : j + 4 ≤ n
-    pub high : n ≤ rows
-    pub done : (s : List Float) → length s ≡ d * d → Reached s A rows j → r ≡ Done → Reached s B n (j + 4)
+  -- four_columns: n, if r gives it, is the first row that is not made
+  pub record ColumnsEnd (A B : List Float) (j rows : ℕ) (r : Result ℕ Breakdown) : Type 0 where
+    pub low : (n : ℕ) → r ≡ Ok n → j + 4 ≤ n
+    pub high : (n : ℕ) → r ≡ Ok n → n ≤ rows
+    pub done : (s : List Float) → length s ≡ d * d → Reached s A rows j → (n : ℕ) → r ≡ Ok n → Reached s B n (j + 4)
     pub stops : (s : List Float) → length s ≡ d * d → Reached s A rows j → Refuses d s r
 
   -- last_rows
-  pub record Finishes (A B : List Float) (rows j : ℕ) (r : Solve) : Type 0 where
+  pub record Finishes (A B : List Float) (rows j : ℕ) (r : Result (Unit {0}) Breakdown) : Type 0 where
     pub answer : (s : List Float) → length s ≡ d * d → Reached s A rows j → ended r B ≡ factor d s

@@ -1,19 +1,16 @@
 -- What the steps of `run` require, and what they answer.
+use Rattle.std.specs.Prelude.{Err, Ok, Result}
+use Rattle.placement.specs.declared.Report.{Report}
 use Rattle.std.specs.Prelude.{ℕ, ◌*◌, ◌≤◌, ◌≡◌, true, List, length, Float}
 use Rattle.field.specs.Buffer.{vectors_in}
 use Rattle.network.specs.declared.Refusal.{Refusal}
 use Rattle.network.specs.declared.Shape.{Shape}
-use Rattle.network.specs.declared.Verdict.TheVariants as tested
 use Rattle.network.specs.Network.{Graph, rows}
 use Rattle.network.specs.Refusals.{verdict, count_tests, ends_fit, end_tests, domain_tests, graph_row_tests}
 use Rattle.graph.specs.Outcome.{Labelled}
 use Rattle.graph.specs.Distinct.{distinct}
-use Rattle.placement.specs.declared.Answer.{Answer}
-use Rattle.placement.specs.declared.Answer.TheVariants.{Refused, Accepted}
 use Rattle.lists.specs.PointLists.{offsets_of, listed_of}
 use Rattle.layout.specs.Image.{Content}
-use Rattle.image.specs.declared.Counted.{Counted}
-use Rattle.image.specs.declared.Counted.TheVariants.{Refused as NoCounts, Of}
 use Rattle.image.specs.Reading.{shape_at, content_of}
 use Rattle.image.specs.Tests.{content_fits, content_sections, counts_tests}
 use Rattle.command.specs.Command.{program_tests, refused_line, placed_lines, ImageSolved}
@@ -21,7 +18,7 @@ use Rattle.command.specs.Command.{program_tests, refused_line, placed_lines, Ima
 -- an image of at most 16,384 bytes whose counts pass and are those of s
 pub record CountsPassed (l : List ℕ) (s : Shape) : Type 0 where
   pub short : length l ≤ 16384
-  pub passed : verdict (counts_tests l) ≡ tested.Passed
+  pub passed : verdict (counts_tests l) ≡ Ok tt
   pub shape : s ≡ shape_at 36 l
 
 -- at most 64 cameras, and points and rows that fit into 16,384 bytes
@@ -32,15 +29,15 @@ pub record Small (s : Shape) : Type 0 where
 
 -- a content that passes the reader's tests
 pub record ContentSound (c : Content) : Type 0 where
-  pub counts : verdict (count_tests c.shape) ≡ tested.Passed
+  pub counts : verdict (count_tests c.shape) ≡ Ok tt
   pub fit : content_fits c ≡ true
-  pub ends : verdict (end_tests c.shape c.ends) ≡ tested.Passed
-  pub domain : verdict (domain_tests (content_sections c)) ≡ tested.Passed
+  pub ends : verdict (end_tests c.shape c.ends) ≡ Ok tt
+  pub domain : verdict (domain_tests (content_sections c)) ≡ Ok tt
 
 -- x is what the reader answered of the image l, and c is the content that it left
-pub record ReadAs (l : List ℕ) (x : Counted) (c : Content) : Type 0 where
-  pub refused : (r : Refusal) → x ≡ NoCounts r → verdict (program_tests l) ≡ tested.Refused r
-  pub passed : (s : Shape) → x ≡ Of s → (verdict (program_tests l) ≡ tested.Passed) × (c ≡ content_of l) × ContentSound c
+pub record ReadAs (l : List ℕ) (x : Result Shape Refusal) (c : Content) : Type 0 where
+  pub refused : (r : Refusal) → x ≡ Err r → verdict (program_tests l) ≡ Err r
+  pub passed : (s : Shape) → x ≡ Ok s → (verdict (program_tests l) ≡ Ok tt) × (c ≡ content_of l) × ContentSound c
 
 -- the point lists that are built of the rows
 pub record Listed (s : Shape) (ends offsets listed : List ℕ) : Type 0 where
@@ -57,9 +54,9 @@ pub record BuffersSized (s : Shape) (ms : List ℕ) (l cs ps : List Float) : Typ
 
 -- a graph that passes the tests of the parts listing, whose buffers have room
 pub record GraphPassed (g : Graph) : Type 0 where
-  pub counts : verdict (count_tests g.shape) ≡ tested.Passed
+  pub counts : verdict (count_tests g.shape) ≡ Ok tt
   pub fit : ends_fit (rows g.shape) g.ends g.weights ≡ true
-  pub rows : verdict (graph_row_tests g) ≡ tested.Passed
+  pub rows : verdict (graph_row_tests g) ≡ Ok tt
 
 -- k is the number of parts of g
 pub record PartCount (g : Graph) (k : ℕ) : Type 0 where
@@ -68,24 +65,24 @@ pub record PartCount (g : Graph) (k : ℕ) : Type 0 where
   pub counted : k ≡ distinct labels
 
 -- the answer is x and the text is t
-pub record Exactly (x : Answer) (t : List ℕ) (answer : Answer) (text : List ℕ) : Type 0 where
+pub record Exactly (x : Result Report Refusal) (t : List ℕ) (answer : Result Report Refusal) (text : List ℕ) : Type 0 where
   pub answered : answer ≡ x
   pub printed : text ≡ t
 
 -- a refusal and its line
-abbrev pub RefusedAs : Refusal → Answer → List ℕ → Type 0
-RefusedAs r = Exactly (Refused r) (refused_line r)
+abbrev pub RefusedAs : Refusal → Result Report Refusal → List ℕ → Type 0
+RefusedAs r = Exactly (Err r) (refused_line r)
 
 -- an answer and its lines, where cs and ps hold the cameras' and points' numbers
-abbrev pub text_of : Shape → (parts : ℕ) → Answer → (cs ps : List Float) → List ℕ
-text_of s parts (Refused r) cs ps = refused_line r
-text_of s parts (Accepted p) cs ps = placed_lines s parts p (vectors_in cs) (vectors_in ps)
+abbrev pub text_of : Shape → (parts : ℕ) → Result Report Refusal → (cs ps : List Float) → List ℕ
+text_of s parts (Err r) cs ps = refused_line r
+text_of s parts (Ok p) cs ps = placed_lines s parts p (vectors_in cs) (vectors_in ps)
 
-abbrev pub AnsweredAs : Shape → (parts : ℕ) → Answer → (cs ps : List Float) → Answer → List ℕ → Type 0
+abbrev pub AnsweredAs : Shape → (parts : ℕ) → Result Report Refusal → (cs ps : List Float) → Result Report Refusal → List ℕ → Type 0
 AnsweredAs s parts x cs ps = Exactly x (text_of s parts x cs ps)
 
 -- the content c was solved with so many parts: x is the answer, and cs and ps hold the cameras' and points' numbers
-pub record SolvedAs (c : Content) (parts : ℕ) (x : Answer) (cs ps : List Float) : Type 0 where
+pub record SolvedAs (c : Content) (parts : ℕ) (x : Result Report Refusal) (cs ps : List Float) : Type 0 where
   pub solved : ImageSolved c x (text_of c.shape parts x cs ps)
   pub cameras : length cs ≤ 192
   pub points : length ps ≤ 2040

@@ -1,8 +1,12 @@
-use Rattle.exports.proofs.Calls.{counts-undone, connected-done}
+use Rattle.std.proofs.Common.{arith}
+use Rattle.exports.specs.Codes.{yes_or_no}
+use Rattle.exports.proofs.Calls.{counts-undone, done}
 use Rattle.exports.proofs.vobzeile_connected.Goals as goal
 
 pub returns-then-report-ne1 : goal.returns-then-report-ne1
 returns-then-report-ne1 c = search counts-undone
 
 pub returns : goal.returns
-returns c = search connected-done
+returns c =
+    let k = rw c.shape-s.ensures at c.is_connected-answer.ensures in
+    done yes_or_no _ _ c.map.ensures.cases (λ x y e. e) (omega arith) k c.finish.ensures.coded c.finish.ensures.reported

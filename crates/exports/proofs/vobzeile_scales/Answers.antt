@@ -1,8 +1,12 @@
-use Rattle.exports.proofs.Calls.{counts-undone, scales-done}
+use Rattle.std.proofs.Common.{arith}
+use Rattle.exports.specs.Codes.{nothing}
+use Rattle.exports.proofs.Calls.{counts-undone, done}
 use Rattle.exports.proofs.vobzeile_scales.Goals as goal
 
 pub returns-then-report-ne1 : goal.returns-then-report-ne1
 returns-then-report-ne1 c = search counts-undone
 
 pub returns : goal.returns
-returns c = search scales-done
+returns c =
+    let k = rw c.shape-s.ensures at c.scales-answer.ensures in
+    done nothing _ _ c.map.ensures.cases (λ x y e. e) (omega arith) k c.finish.ensures.coded c.finish.ensures.reported

@@ -1,14 +1,15 @@
+use Rattle.network.proofs.Verdicts.{given}
 use Rattle.image.proofs.Passing.{write-refused, write_shape, write-lengths, write-room, write-passed, holds-doubles}
 use Rattle.image.proofs.write.Goals as goal
 
-pub returns-in-Refused : goal.returns-in-Refused
-returns-in-Refused c = search (write-refused, holds-doubles)
+pub returns-in_err-check_write : goal.returns-in_err-check_write
+returns-in_err-check_write c = rw (given c.from_residual.ensures.1) (search (write-refused, holds-doubles, c.in_err-check_write.was))
 
 pub put_image-requires : goal.put_image-requires
-put_image-requires c = record { content_lengths = search write-lengths; points_in_bounds = search write-room }
+put_image-requires c = record { content_lengths = search (write-lengths, c.in_ok-check_write.was); points_in_bounds = search (write-room, c.in_ok-check_write.was) }
 
 pub image_size-requires : goal.image_size-requires
-image_size-requires c = search write_shape
+image_size-requires c = search (write_shape, c.in_ok-check_write.was)
 
 pub returns : goal.returns
-returns c = search (write-passed, holds-doubles)
+returns c = search (write-passed, holds-doubles, c.in_ok-check_write.was)

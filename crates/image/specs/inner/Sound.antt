@@ -1,10 +1,9 @@
 -- What the reader's tests have shown where they refuse nothing, and what the functions that store leave.
+use Rattle.std.specs.Prelude.{None, Ok}
 use Rattle.std.specs.Prelude.{ℕ, ◌+◌, ◌*◌, ◌≤◌, ◌<◌, ◌≡◌, Bool, true, false, List, length, get_or, Float}
 use Rattle.std.specs.Float.Ieee.Scale.{finite}
-use Rattle.field.specs.declared.Place.TheVariants.{Nowhere}
 use Rattle.network.specs.declared.Shape.{Shape}
 use Rattle.network.specs.Network.{rows}
-use Rattle.network.specs.declared.Verdict.TheVariants.{Passed}
 use Rattle.network.specs.Refusals.{verdict, count_tests, bad_row, end_tests, domain_tests}
 use Rattle.network.specs.inner.Sound.{ShapeSound, ContentLengths}
 use Rattle.layout.specs.Bytes.{double_at}
@@ -20,7 +19,7 @@ bad_row_from p r l = bad_row (weights_from p r l) (scales_from p r l) (rays_from
 -- 20 to 22
 pub record ImageSound (l : List ℕ) : Type 0 where
   pub head : bad_head 1 4 l ≡ false
-  pub pairs : bad_pair 4 l ≡ Nowhere
+  pub pairs : bad_pair 4 l ≡ None
   pub lengths : (i : ℕ) → i < 4 → length_at l i ≡ get_or (sizes (shape_at 36 l)) i 0
   pub size : length l ≡ 52 + 48 * rows (shape_at 36 l) + 24 * (shape_at 36 l).points
 
@@ -54,9 +53,9 @@ pub record ReadSound (l : List ℕ) (lent : Lists) : Type 0 where
 
 -- all of the writer's, with n bytes to write to
 pub record WriteSound (c : Content) (n : ℕ) : Type 0 where
-  pub counts : verdict (count_tests c.shape) ≡ Passed
+  pub counts : verdict (count_tests c.shape) ≡ Ok tt
   pub shape : ShapeSound c.shape
   pub fit : content_fits c ≡ true
-  pub ends : verdict (end_tests c.shape c.ends) ≡ Passed
-  pub domain : verdict (domain_tests (content_sections c)) ≡ Passed
+  pub ends : verdict (end_tests c.shape c.ends) ≡ Ok tt
+  pub domain : verdict (domain_tests (content_sections c)) ≡ Ok tt
   pub room : length (image c) ≤ n

@@ -1,9 +1,19 @@
+use Rattle.network.proofs.Verdicts.{given, test-at-passed}
+use Rattle.network.specs.declared.Cause.TheVariants.{Diagonal}
+use mathlib.Core.Path.{sym, ◌∙◌}
 use Rattle.iterative.proofs.Solving.{none-bad, solved-bad}
 use borrow.Author.Rules.{rules}
 use Rattle.iterative.proofs.solve_iterative.Goals as goal
 
 pub run-requires : goal.run-requires
-run-requires c = record { links_sound = search rules; s_in_bounds = search rules; cameras_value = search none-bad }
+run-requires c = record {
+  s_in_bounds = search rules;
+  cameras_value = rw c.new-t.ensures (none-bad _ _ _ c.find_bad_diagonal.ensures (test-at-passed Diagonal _ (sym c.refused_at.ensures ∙ c.in_ok-refused_at.was)));
+}
 
-pub returns-in-At : goal.returns-in-At
-returns-in-At c = search solved-bad
+pub returns-in_err-refused_at : goal.returns-in_err-refused_at
+returns-in_err-refused_at c =
+    rw (given c.from_residual.ensures.1) (solved-bad _ _ _ _ c.find_bad_diagonal.ensures c.refused_at.ensures c.in_err-refused_at.was)
+
+pub returns : goal.returns
+returns c = rw c.new-t.ensures at c.run.ensures

@@ -1,11 +1,12 @@
 -- What the functions of the solve require of the lent buffer, what they make of it, and what they keep.
-use Rattle.std.specs.Prelude.{◌≡◌, List, [], ◌∷◌, Bool, cond, false, true, ℕ, ◌+◌, ◌*◌, ◌≤◌, eqb, drop, length, Float}
-use Rattle.std.specs.Float.Ieee.{add, sub}
+use Rattle.std.specs.Prelude.{Err, Ok, Option, Result}
+use Rattle.std.specs.Borrow.{Bor}
+use Rattle.std.specs.Prelude.{◌≡◌, ◌<◌, List, [], ◌∷◌, cond, ℕ, ◌+◌, ◌*◌, ◌≤◌, eqb, drop, length, Float}
+use Rattle.std.specs.Float.Ieee.{add}
 use Rattle.std.specs.Float.{binary64}
 use Rattle.field.specs.Buffer.{get, load, put as put_at, store, vector}
-use Rattle.field.specs.Count.{upto}
+use Rattle.field.specs.Count.{field, upto}
 use Rattle.field.specs.Vec.{origin, over, plus}
-use Rattle.field.specs.declared.Place.{Place}
 use Rattle.field.specs.declared.Vec3.{Vec3}
 use Rattle.network.specs.Network.{Links}
 use Rattle.network.specs.inner.Sound.{ShapeSound}
@@ -16,25 +17,23 @@ use Rattle.system.specs.inner.Formed.{positions_in, weights_in}
 use Rattle.operator.specs.Operator.{reduced_by}
 use Rattle.iterative.specs.Method.{Ending, Run, State, accepted, allowed, any, bad_residual, bound_of, closed, component, continued, ended}
 use Rattle.iterative.specs.Method.{failed, flag, moved, next, preconditioned, redirect, refused, residual_of, round, running, solution}
-use Rattle.iterative.specs.Method.{starts_active, step, stepped, stepped_field}
+use Rattle.iterative.specs.Method.{starts_active, step, stepped_field}
 use Rattle.iterative.specs.Opening.{Opened, Segment, start_segments}
 use Rattle.iterative.specs.Problem.{Problem, dot_step, field_dot, most_rounds, times}
 use Rattle.iterative.specs.declared.Active.{Active}
-use Rattle.iterative.specs.declared.Outcome.{Outcome}
-use Rattle.iterative.specs.declared.Outcome.TheVariants.{Failed as NotPlaced, Placed}
+use Rattle.network.specs.declared.Refusal.{Refusal}
 use Rattle.iterative.specs.declared.Round.{Round}
 use Rattle.iterative.specs.declared.Step.{Step}
-use Rattle.iterative.specs.declared.Step.TheVariants.{Ended, Failed, Running}
+use Rattle.iterative.specs.declared.Step.TheVariants.{Ended, Running}
 
 -- ---- components
 
--- plus or minus
-abbrev pub signed : Bool → Float → Float → Float
-signed true = add binary64
-signed false = sub binary64
+-- what `post` lets a function return of x and y is op x y
+abbrev pub Computes : (Float → Float → Float → Type 0) → (Float → Float → Float) → Type 0
+Computes post op = (x y r : Float) → post x y r → r ≡ op x y
 
 -- the lowest component whose flag is set
-abbrev pub lowest_flag : Active → Place
+abbrev pub lowest_flag : Active → Option ℕ
 lowest_flag a = component (λ k. flag k a)
 
 -- ---- what is required
@@ -43,6 +42,14 @@ lowest_flag a = component (λ k. flag k a)
 pub record FieldsFit (s : Shape) (size : ℕ) : Type 0 where
   pub shape : ShapeSound s
   pub room : weights_at s ≤ size
+
+-- the system's links and its anchor
+pub record ReducedSystem : Type 0 where
+  pub links : Links
+  pub anchor : ℕ
+
+abbrev pub reduced_system : Links → ℕ → ReducedSystem
+reduced_system L a = record { links = L; anchor = a }
 
 -- ---- what stands in a buffer
 
@@ -78,10 +85,10 @@ state_in s l r = record {
 }
 
 -- a round's answer, with the fields as it leaves them
-abbrev pub run_in : Shape → List Float → Step → Run
-run_in s l (Failed k i) = failed k i
-run_in s l (Running r) = running (state_in s l r)
-run_in s l (Ended r) = ended (state_in s l r)
+abbrev pub run_in : Shape → List Float → Result Step Refusal → Run
+run_in s l (Err r) = failed r
+run_in s l (Ok (Running r)) = running (state_in s l r)
+run_in s l (Ok (Ended r)) = ended (state_in s l r)
 
 -- ---- what is kept
 
@@ -96,17 +103,23 @@ pub record SystemKept (s : Shape) (l l' : List Float) : Type 0 where
   pub outside : Outside s l l'
   pub right : load vector l' (right_at s) s.cameras ≡ load vector l (right_at s) s.cameras
 
--- ---- one turn of such a pass, at camera i
+-- ---- passes that fill a field with what a function makes of the buffer and a camera's number
 
-pub record TurnPreconditioned (n a from into i : ℕ) (t : Vec3) (l l' : List Float) (r : Vec3) : Type 0 where
-  pub put : l' ≡ put_at vector l (into + 3 * i) (cond (eqb i a) origin (over (get vector l (from + 3 * i)) (diagonal_in l i)))
-  pub dot : r ≡ dot_step a (load vector l' from n) (load vector l' into n) i t
+-- it may be called at each of n cameras, on a buffer of that size
+abbrev pub MayMake : (Bor (List Float) → ℕ → Type 0) → ℕ → ℕ → Type 0
+MayMake pre n size = (x : Bor (List Float)) (i : ℕ) → i < n → length x.now ≡ size → pre x i
 
-pub record TurnStepped (n a : ℕ) (op : Float → Float → Float) (active : Active) (alpha : Vec3) (into along i : ℕ) (t : Vec3) (l l' : List Float)
-    (r : Vec3) : Type 0 where
-  pub put : l' ≡ put_at vector l (into + 3 * i) (cond (eqb i a) (get vector l (into + 3 * i))
-      (stepped op active alpha (get vector l (into + 3 * i)) (get vector l (along + 3 * i))))
-  pub dot : r ≡ dot_step a (load vector l' into n) (load vector l' into n) i t
+-- it makes g's vector i, once the i before it are stored in the buffer l from `into` on
+abbrev pub Makes : (Bor (List Float) → ℕ → Vec3 → Type 0) → (ℕ → Vec3) → ℕ → ℕ → List Float → Type 0
+Makes post g n into l = (x : Bor (List Float)) (i : ℕ) (v : Vec3) → i < n → x.now ≡ store vector l into (field i g) → post x i v → v ≡ g i
+
+-- g's first i vectors are stored in m, which was l, from `into` on; t is the sum so far of the dot of g with itself, or with the field at `with` before it
+pub record Summed (g : ℕ → Vec3) (n a with into : ℕ) (l : List Float) (i : ℕ) (m : List Float) (t : Vec3) : Type 0 where
+  pub filled : m ≡ store vector l into (field i g)
+  pub own : with ≡ into → t ≡ upto (dot_step a (field n g) (field n g)) i origin
+  pub prior : with + 3 * n ≤ into → t ≡ upto (dot_step a (load vector l with n) (field n g)) i origin
+
+-- ---- one turn of the pass at the start, at camera i
 
 -- camera i's right side and preconditioned residual at the start, of its term: zero at the anchor
 abbrev pub right_in : ℕ → List Float → ℕ → Vec3
@@ -147,7 +160,7 @@ pub record FieldStepped (s : Shape) (a : ℕ) (op : Float → Float → Float) (
 -- ---- what a round does to the buffer l, of which it makes l': the method's, whatever the operator is
 
 -- the run x, of the problem with any operator
-pub record Ran (s : Shape) (x : (List Vec3 → List Vec3) → Run) (l l' : List Float) (t : Step) : Type 0 where
+pub record Ran (s : Shape) (x : (List Vec3 → List Vec3) → Run) (l l' : List Float) (t : Result Step Refusal) : Type 0 where
   pub run : (op : List Vec3 → List Vec3) → run_in s l' t ≡ x op
   pub kept : SystemKept s l l'
 
@@ -170,7 +183,7 @@ pub record MovedAlong (s : Shape) (a : ℕ) (r : Round) (curvature : Vec3) (l l'
   pub kept : SystemKept s l l'
 
 -- a whole round of a problem
-pub record Rounded (s : Shape) (P : Problem) (r : Round) (l l' : List Float) (t : Step) : Type 0 where
+pub record Rounded (s : Shape) (P : Problem) (r : Round) (l l' : List Float) (t : Result Step Refusal) : Type 0 where
   pub run : run_in s l' t ≡ round P (state_in s l r)
   pub kept : SystemKept s l l'
 
@@ -178,7 +191,7 @@ pub record Rounded (s : Shape) (P : Problem) (r : Round) (l l' : List Float) (t 
 unfoldable pub rounds_from : Problem → ℕ → Run → Run
 rounds_from P k x = upto (λ (_ : ℕ). next P) k x
 
-pub record Iterated (s : Shape) (P : Problem) (x : Run) (l l' : List Float) (t : Step) : Type 0 where
+pub record Iterated (s : Shape) (P : Problem) (x : Run) (l l' : List Float) (t : Result Step Refusal) : Type 0 where
   pub run : run_in s l' t ≡ rounds_from P (most_rounds s.cameras) x
   pub kept : SystemKept s l l'
 
@@ -207,23 +220,23 @@ pub record Settled (s : Shape) (P : Problem) (l l' : List Float) (v : Vec3) : Ty
   pub kept : PositionsKept s l l'
 
 -- the final test
-pub record Tested (s : Shape) (P : Problem) (l l' : List Float) (r : Place) : Type 0 where
+pub record Tested (s : Shape) (P : Problem) (l l' : List Float) (r : Option ℕ) : Type 0 where
   pub place : r ≡ component (bad_residual (allowed P) (residual_of P (positions_in s l)))
   pub kept : PositionsKept s l l'
 
 -- the answer for each way in which the method can end
-abbrev pub answer_of : Ending → Outcome
-answer_of (accepted s) = Placed s.round.count
-answer_of (refused k i) = NotPlaced k i
+abbrev pub answer_of : Ending → Result ℕ Refusal
+answer_of (accepted s) = Ok s.round.count
+answer_of (refused r) = Err r
 
-pub record Concluded (s : Shape) (P : Problem) (x : Run) (l l' : List Float) (o : Outcome) : Type 0 where
+pub record Concluded (s : Shape) (P : Problem) (x : Run) (l l' : List Float) (o : Result ℕ Refusal) : Type 0 where
   pub answer : o ≡ answer_of (closed P x)
   pub kept : PositionsKept s l l'
 
 -- ---- the whole solve
 
 -- The answer is the method's; where it is accepted, the positions are too; and all but the six fields is kept.
-pub record IterativeSolved (s : Shape) (P : Problem) (l l' : List Float) (o : Outcome) : Type 0 where
+pub record IterativeSolved (s : Shape) (P : Problem) (l l' : List Float) (o : Result ℕ Refusal) : Type 0 where
   pub answer : o ≡ answer_of (solution P)
   pub positions : (t : State) → solution P ≡ accepted t → positions_in s l' ≡ t.positions
   pub outside : Outside s l l'

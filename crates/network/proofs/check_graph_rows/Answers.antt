@@ -1,11 +1,11 @@
-use Rattle.network.proofs.Verdicts.{halts-in, passes-in}
+use Rattle.network.proofs.Verdicts.{halts-in, handed-out, passes-in}
 use Rattle.network.specs.Refusals.{graph_row_tests}
 use Rattle.network.proofs.check_graph_rows.Goals as goal
 
-pub returns-in-Refused : goal.returns-in-Refused
+pub returns-in_err-check_ends : goal.returns-in_err-check_ends
 unfolding graph_row_tests
-returns-in-Refused c = search halts-in
+returns-in_err-check_ends c = handed-out c.from_residual.ensures.1 (search (halts-in, c.in_err-check_ends.was))
 
 pub returns : goal.returns
 unfolding graph_row_tests
-returns c = search passes-in
+returns c = search (passes-in, c.in_ok-check_ends.was)

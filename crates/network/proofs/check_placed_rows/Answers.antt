@@ -1,12 +1,15 @@
-use Rattle.network.proofs.Verdicts.{halts-in, passes-in}
+use Rattle.network.proofs.Verdicts.{halts-in, handed-out, passes-in}
 use Rattle.network.specs.Refusals.{network_row_tests}
 use borrow.Author.Rules.{rules}
 use Rattle.network.proofs.check_placed_rows.Goals as goal
 
-pub returns-in-Refused : goal.returns-in-Refused
+pub returns-in_err-check_links : goal.returns-in_err-check_links
 unfolding network_row_tests
-returns-in-Refused c = record { value = search halts-in; marks_after = search rules }
+returns-in_err-check_links c = record {
+  value = handed-out c.from_residual.ensures.1 (search (halts-in, c.in_err-check_links.was, c.check_links.ensures.value));
+  marks_after = search rules;
+}
 
 pub returns : goal.returns
 unfolding network_row_tests
-returns c = record { value = search passes-in; marks_after = search rules }
+returns c = record { value = search (passes-in, c.in_ok-check_links.was, c.check_links.ensures.value); marks_after = search rules }

@@ -1,14 +1,10 @@
-use mathlib.Core.Path.{refl}
 use native.Mathlib.Omega.{arith}
-use Rattle.field.proofs.Fills.{fill_none, fill-ended}
+use Rattle.field.proofs.Fills.{fill_none}
 use Rattle.operator.proofs.Passes.{ridge-more}
 use Rattle.operator.proofs.ridge_pass.Goals as goal
 
 pub loop-i-init : goal.loop-i-init
-loop-i-init c = (omega arith, search fill_none, refl)
+loop-i-init c = search fill_none
 
 pub loop-i-preserved : goal.loop-i-preserved
-loop-i-preserved c = (omega arith, search (ridge-more, arith), omega arith)
-
-pub returns : goal.returns
-returns c = search fill-ended
+loop-i-preserved c = search (ridge-more, arith)

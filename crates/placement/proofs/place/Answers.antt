@@ -1,3 +1,4 @@
+use Rattle.network.proofs.Verdicts.{given}
 use Rattle.placement.proofs.Placing.{checked-links, checked-points, checked-rows, placed-accepted, placed-refused, ran-room}
 use borrow.Author.Rules.{rules}
 use Rattle.placement.proofs.place.Goals as goal
@@ -5,10 +6,10 @@ use Rattle.placement.proofs.place.Goals as goal
 pub fill-requires : goal.fill-requires
 fill-requires c = record { links_sound = search checked-links; rows_there = search checked-rows; points_len = (search checked-points, search ran-room); cameras_len = search rules }
 
-pub returns-in-Accepted : goal.returns-in-Accepted
-returns-in-Accepted c =
-    placed-accepted _ _ _ _ _ _ _ _ _ _ _ _ _ _ _ c.requires.checked c.run-answer.ensures _ _ _
-    c.in-Accepted.is c.fill.ensures.cameras_after c.fill.ensures.placed_after
+pub returns-in_err-report : goal.returns-in_err-report
+returns-in_err-report c = rw (given c.from_residual.ensures.1) (search (placed-refused, c.in_err-report.was))
 
 pub returns : goal.returns
-returns c = search placed-refused
+returns c =
+    placed-accepted _ _ _ _ _ _ _ _ _ _ _ _ _ _ _ c.requires.checked c.run.ensures _ _ _
+    c.in_ok-report.was c.fill.ensures.cameras_after c.fill.ensures.placed_after

@@ -1,4 +1,7 @@
 -- What the functions of the solve require of the work buffer, and what they leave there.
+use Rattle.std.specs.Prelude.{Err, Ok, Result}
+use Rattle.network.specs.declared.Refusal.{Refusal}
+use Rattle.placement.specs.declared.Report.{Report}
 use Rattle.std.specs.Prelude.{ℕ, ◌≤◌, ◌<◌, ◌≡◌, List, cond, false, eqb, drop, length, Float}
 use Rattle.field.specs.declared.Vec3.{Vec3}
 use Rattle.field.specs.Buffer.{load}
@@ -12,13 +15,10 @@ use Rattle.system.specs.declared.CameraTerm.{CameraTerm}
 use Rattle.system.specs.inner.Formed.{Segments, positions_in, weights_in}
 use Rattle.iterative.specs.Method.{Ending, solution}
 use Rattle.iterative.specs.Reduced.{problem_by}
-use Rattle.cholesky.specs.Cholesky.{Result}
+use Rattle.cholesky.specs.declared.Breakdown.{Breakdown}
 use Rattle.dense.specs.Dense.{dense_solution_by}
-use Rattle.placement.specs.declared.Answer.{Answer}
-use Rattle.placement.specs.declared.Answer.TheVariants.{Refused, Accepted}
-use Rattle.placement.specs.declared.routes.Ended.{Ended}
-use Rattle.placement.specs.declared.routes.Ended.TheVariants.{Failed, Placed}
-use Rattle.placement.specs.Routes.{Placement, failing, failing_at, fall_back, placed, routed}
+use Rattle.placement.specs.declared.routes.Finish.{Finish}
+use Rattle.placement.specs.Routes.{Placement, failing, fall_back, placed, routed}
 use Rattle.placement.specs.Solved.{answer_of, cameras_after, points_after}
 
 -- ---- a route, over the system that stands in the buffer
@@ -33,20 +33,20 @@ pub record RouteReady (s : Shape) (a route limit size : ℕ) : Type 0 where
 abbrev pub iterative_in : Links → ℕ → List Float → Ending
 iterative_in L a l = solution (problem_by L (weights_in L.shape l) (load term l 0 L.shape.cameras) a)
 
-abbrev pub dense_in : Links → ℕ → List Float → Result (List Vec3)
+abbrev pub dense_in : Links → ℕ → List Float → Result (List Vec3) Breakdown
 dense_in L a l = dense_solution_by L (weights_in L.shape l) (load term l 0 L.shape.cameras) a
 
 -- after a refusal of the iterative part, on either of its routes: that refusal on route 2, what follows on route 3
-abbrev pub after_refusal : ℕ → ℕ → ℕ → Result (List Vec3) → ℕ → ℕ → Placement
-after_refusal d route limit y k i = cond (eqb route 2) (failing_at k i) (fall_back d limit y k i)
+abbrev pub after_refusal : ℕ → ℕ → ℕ → Result (List Vec3) Breakdown → Refusal → Placement
+after_refusal d route limit y r = cond (eqb route 2) (failing r) (fall_back d limit y r)
 
 -- how a route ended, with the cameras that stand in the buffer
-abbrev pub ended_with : Ended → List Vec3 → Placement
-ended_with (Failed r) cameras = failing r
-ended_with (Placed route rounds) cameras = placed route rounds cameras
+abbrev pub ended_with : Result Finish Refusal → List Vec3 → Placement
+ended_with (Err r) cameras = failing r
+ended_with (Ok f) cameras = placed f.route f.rounds cameras
 
 -- The route that ends as x made l' of the buffer l, and ended as r. The first t numbers may have changed, but not the system.
-pub record Routed (s : Shape) (t : ℕ) (x : Placement) (l l' : List Float) (r : Ended) : Type 0 where
+pub record Routed (s : Shape) (t : ℕ) (x : Placement) (l l' : List Float) (r : Result Finish Refusal) : Type 0 where
   pub answer : ended_with r (positions_in s l') ≡ x
   pub segments : (w : Weights) (ts : List CameraTerm) → Segments s w ts l → Segments s w ts l'
   pub surplus : drop t l' ≡ drop t l
@@ -55,14 +55,14 @@ pub record Routed (s : Shape) (t : ℕ) (x : Placement) (l l' : List Float) (r :
 -- ---- the whole solve
 
 -- the answer, with an anchor and few
-abbrev pub reported : ℕ → ℕ → Ended → Answer
-reported a few (Failed r) = Refused r
-reported a few (Placed route rounds) = Accepted (record { anchor = a; route = route; rounds = rounds; few = few })
+abbrev pub reported : ℕ → ℕ → Result Finish Refusal → Result Report Refusal
+reported a few (Err r) = Err r
+reported a few (Ok f) = Ok (record { anchor = a; route = f.route; rounds = f.rounds; few = few })
 
 -- an answer, with the cameras that stand in the buffer
-abbrev pub outcome : Answer → List Vec3 → Placement
-outcome (Refused r) cameras = failing r
-outcome (Accepted p) cameras = placed p.route p.rounds cameras
+abbrev pub outcome : Result Report Refusal → List Vec3 → Placement
+outcome (Err r) cameras = failing r
+outcome (Ok p) cameras = placed p.route p.rounds cameras
 
 -- nothing was refused, and the buffer has the length that the route needs
 pub record Checked (net : Network) (route limit size : ℕ) : Type 0 where
@@ -71,7 +71,7 @@ pub record Checked (net : Network) (route limit size : ℕ) : Type 0 where
   pub room : work_length net.shape route limit ≤ size
 
 -- the network's system is formed and the route taken
-pub record Ran (net : Network) (route limit : ℕ) (l l' : List Float) (r : Answer) : Type 0 where
+pub record Ran (net : Network) (route limit : ℕ) (l l' : List Float) (r : Result Report Refusal) : Type 0 where
   pub ended : outcome r (positions_in net.shape l') ≡ routed net route limit
   pub answer : r ≡ answer_of net (routed net route limit)
   pub segments : Segments net.shape (weights_of net) (terms net) l'
@@ -79,7 +79,7 @@ pub record Ran (net : Network) (route limit : ℕ) (l l' : List Float) (r : Answ
   pub size : length l' ≡ length l
 
 -- and the outputs are filled, where it is accepted
-pub record OutputsFilled (net : Network) (route limit : ℕ) (r : Answer) (work work' cameras cameras' points points' : List Float) : Type 0 where
+pub record OutputsFilled (net : Network) (route limit : ℕ) (r : Result Report Refusal) (work work' cameras cameras' points points' : List Float) : Type 0 where
   pub answer : r ≡ answer_of net (routed net route limit)
   pub cameras_out : cameras' ≡ cameras_after (routed net route limit) cameras
   pub points_out : points' ≡ points_after net (routed net route limit) points

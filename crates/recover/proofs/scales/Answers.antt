@@ -1,14 +1,14 @@
-use mathlib.Core.Path.{refl, ◌∙◌}
-use Rattle.recover.proofs.Entries.{left-filled, left-refused, may-fill}
+use mathlib.Core.Path.{refl}
+use Rattle.network.proofs.Verdicts.{given}
+use Rattle.recover.specs.Recover.{scales_of}
+use Rattle.recover.proofs.Entries.{left-filled, left-refused, room-is}
 use Rattle.recover.proofs.scales.Goals as goal
 
 pub fill_scales-requires : goal.fill_scales-requires
-fill_scales-requires c = may-fill _ _ c.check-verdict.ensures.value _ _ c.in-Passed.is refl c.marked_buffer-cameras.ensures
+fill_scales-requires c = room-is _ c.enter.ensures.value c.in_ok-i.was refl
 
-pub returns-in-Refused : goal.returns-in-Refused
-returns-in-Refused c = search left-refused
+pub returns-in_err-i : goal.returns-in_err-i
+returns-in_err-i c = rw (given c.from_residual.ensures.1) (left-refused _ c.enter.ensures.value c.enter.ensures.marks_after _ _ c.in_err-i.was)
 
-pub returns-in-Passed : goal.returns-in-Passed
-returns-in-Passed c =
-    let k = c.check-verdict.ensures in
-    left-filled _ _ k.value k.marks_after _ _ c.in-Passed.is (c.fill_scales.ensures ∙ rw c.marked_buffer-cameras.ensures)
+pub returns : goal.returns
+returns c = left-filled _ c.enter.ensures.value c.enter.ensures.marks_after scales_of _ c.in_ok-i.was c.fill_scales.ensures

@@ -1,23 +1,33 @@
--- What the functions that read placed cameras require of the lists, and what the points' functions read of the work buffer.
+-- What the tests of dots and scales have shown, and what the points' functions read of the work buffer.
 use Rattle.std.specs.Prelude.{ℕ, ◌*◌, ◌≡◌, List, length, Float}
+use Rattle.std.specs.Prelude.{Ok, Result}
+use Rattle.std.specs.Result.{result_and}
+use Rattle.network.specs.declared.Refusal.{Refusal}
 use Rattle.field.specs.declared.Vec3.{Vec3}
 use Rattle.network.specs.declared.Shape.{Shape}
-use Rattle.network.specs.Network.{Network, rows}
+use Rattle.network.specs.Network.{Network}
 use Rattle.network.specs.inner.Sound.{NetworkSound}
 use Rattle.system.specs.System.{pull_in}
 use Rattle.system.specs.inner.Formed.{positions_in, weights_in}
 use Rattle.recover.specs.Recover.{sighting}
+use Rattle.recover.specs.Calls.{PlacedNetwork, placed_verdict, chosen}
 
--- the numbers of the m points and the n cameras are there
-pub record PositionsThere (s : Shape) (ps cs : List Float) : Type 0 where
-  pub points : length ps ≡ 3 * s.points
-  pub cameras : length cs ≡ 3 * s.cameras
+-- a network and its placed cameras
+pub record Sites : Type 0 where
+  pub net : Network
+  pub cameras : List Float
 
--- nothing was refused: the network is sound, n cameras are placed, and the output has a number for each row
-pub record FillSound (net : Network) (placed out : List Float) : Type 0 where
-  pub sound : NetworkSound net
-  pub cameras : length placed ≡ 3 * net.shape.cameras
-  pub room : length out ≡ rows net.shape
+abbrev pub sites : Network → List Float → Sites
+sites net cs = record { net = net; cameras = cs }
+
+-- nothing was refused: the network is sound, and n cameras are placed
+pub record SitesSound (i : Sites) : Type 0 where
+  pub sound : NetworkSound i.net
+  pub cameras : length i.cameras ≡ 3 * i.net.shape.cameras
+
+-- what a call of dots or scales goes on with: the network and its marked cameras, unless it is refused
+unfoldable pub entered : PlacedNetwork → Result Sites Refusal
+entered i = result_and (placed_verdict i) (Ok (sites i.net (chosen i)))
 
 -- a row's sighting, by the cameras and the effective weights that the work buffer l holds
 abbrev pub sighting_in : Shape → List ℕ → List Float → List Float → List Float → List Float → ℕ → Vec3

@@ -1,25 +1,17 @@
 use native.Mathlib.Nat.{le_of_lt}
-use native.Mathlib.Omega.{arith}
-use Rattle.sqrt.proofs.Bracket.{down-room, down-less, bracket-down, up_room, up-less, bracket-up, settled}
+use Rattle.sqrt.proofs.Bracket.{down, up, settled, settled-last}
 use Rattle.sqrt.proofs.settle.Goals as goal
+use Rattle.sqrt.proofs.settle.Goals.{then-d-high, else-d-high+then-high-d}
 
-pub next-q-requires : goal.next-q-requires
-next-q-requires c = (search (down-room, le_of_lt), omega arith)
-
-pub loop-hi-smaller-then-d-high : goal.loop-hi-smaller-then-d-high
-loop-hi-smaller-then-d-high c = search (down-less, le_of_lt)
-
-pub loop-hi-preserved-then-d-high : goal.loop-hi-preserved-then-d-high
-loop-hi-preserved-then-d-high c = search (bracket-down, le_of_lt)
-
-pub next-q-requires-then-high-d : goal.next-q-requires-then-high-d
-next-q-requires-then-high-d c = (omega arith, search up_room)
-
-pub loop-hi-smaller : goal.loop-hi-smaller
-loop-hi-smaller c = search up-less
-
-pub loop-hi-preserved : goal.loop-hi-preserved
-loop-hi-preserved c = search bracket-up
-
+-- With `le_of_lt` each goal is proved of too strict a test too, so that a wrong test is refused where it is wrong.
 pub returns-else-high-d : goal.returns-else-high-d
-returns-else-high-d c = search settled
+returns-else-high-d c = search (settled, le_of_lt)
+
+pub loop-turn-preserved : goal.loop-turn-preserved
+loop-turn-preserved c = elim c.if-d-high.branch [
+  | then-d-high w ↦ rw (w.lo-is, w.hi-is) (search (down, le_of_lt, c.next-q.ensures.middle))
+  | else-d-high+then-high-d w ↦ rw (w.lo-is, w.hi-is) (search (up, c.next-q.ensures.middle))
+]
+
+pub returns : goal.returns
+returns c = search settled-last

@@ -1,9 +1,12 @@
-use Rattle.std.proofs.Common.{◌≡◌, length, arith}
-use Rattle.std.proofs.lemmas.List.{length-take-le}
-use Rattle.stream.proofs.Lemmas.{read-within}
+use Rattle.std.proofs.Common.{rules}
+use Rattle.std.proofs.lemmas.Slice.{drop-append-drop}
+use Rattle.stream.specs.Stream.{ReadInto}
+use Rattle.stream.proofs.Lemmas.{failed}
 use Rattle.stream.proofs.read_once.Goals as goal
 
-pub returns : goal.returns
-returns g c =
-    let l : length c.read.new.buf ≡ c.args.room = omega (arith, length-take-le c.args.room c.args.chunk.now (omega arith)) in
-    read-within _ c.read.result _ _ c.told.ensures l c.read.ensures.bound
+pub returns-in_err-count-clause-into : goal.returns-in_err-count-clause-into
+returns-in_err-count-clause-into g c = search failed
+
+pub returns-clause-into : goal.returns-clause-into
+unfolding ReadInto
+returns-clause-into g c = search (rules, drop-append-drop)

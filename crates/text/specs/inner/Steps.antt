@@ -1,7 +1,7 @@
 -- What the steps of `put_placed` and `put_refused` promise each other. No entry point's contract cites it.
 use Rattle.std.specs.Prelude.{List, ◌++◌, ℕ, ◌+◌, ◌*◌, ◌/◌, length, Float}
-use Rattle.text.specs.declared.Counts.{Counts}
-use Rattle.text.specs.declared.Report.{Report}
+use Rattle.network.specs.declared.Shape.{Shape}
+use Rattle.placement.specs.declared.Report.{Report}
 use Rattle.text.specs.Text.{named, newline, counts_line, parts_line, report_line, few_line}
 use Rattle.text.specs.Lent.{Put}
 
@@ -14,14 +14,14 @@ abbrev pub PutNumberLine : (label : List ℕ) (x : ℕ) → (before after : List
 PutNumberLine label x before after p r = Put before after p (named label x ++ newline) (length label + 20 + 1) r
 
 -- the line of the counts, and that of the report
-abbrev pub counts_of : Counts → List ℕ
+abbrev pub counts_of : Shape → List ℕ
 counts_of c = counts_line c.cameras c.points c.bearings c.directions
 
 abbrev pub report_of : Report → List ℕ
 report_of p = report_line p.anchor p.route p.rounds
 
 -- the lines above those of the vectors
-abbrev pub head_of : Counts → ℕ → Report → List ℕ
+abbrev pub head_of : Shape → ℕ → Report → List ℕ
 head_of c parts p = counts_of c ++ parts_line parts ++ report_of p ++ few_line p.few
 
 -- the bytes that the lines of the vectors whose numbers a buffer holds take at most

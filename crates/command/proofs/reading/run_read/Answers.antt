@@ -5,8 +5,8 @@ use Rattle.command.proofs.reading.run_read.Goals as goal
 pub place_read-requires : goal.place_read-requires
 place_read-requires c = record { small = search rules; content_sound = search read-sound }
 
-pub returns-in-Refused : goal.returns-in-Refused
-returns-in-Refused c = search run-refused
+pub returns-in-Err : goal.returns-in-Err
+returns-in-Err c = search run-refused
 
-pub returns-in-Of : goal.returns-in-Of
-returns-in-Of c = search run-solved
+pub returns-in-Ok : goal.returns-in-Ok
+returns-in-Ok c = search run-solved

@@ -4,5 +4,5 @@ use Rattle.command.proofs.reading.run_short.Goals as goal
 pub run_counted-requires : goal.run_counted-requires
 run_counted-requires c = search counts-passed
 
-pub returns-in-Refused : goal.returns-in-Refused
-returns-in-Refused c = search run-uncounted
+pub returns-in-Err : goal.returns-in-Err
+returns-in-Err c = search run-uncounted

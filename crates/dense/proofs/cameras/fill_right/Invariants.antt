@@ -1,6 +1,4 @@
 use mathlib.Core.Path.{◌≡◌}
-use Prim.Native.Nat.{◌≤◌, ◌-◌}
-use lib.ListN.{length}
 use Rattle.field.specs.Count.{field}
 use Rattle.field.specs.Buffer.{load, store, vector}
 use Rattle.system.specs.Work.{term, dense_right_at}
@@ -10,8 +8,4 @@ use Rattle.dense.proofs.cameras.fill_right.Given as goal
 
 abbrev pub invariant-loop-c : goal.invariant-loop-c
 invariant-loop-c l =
-    (l.c ≤ l.n) × (l.work ≡ store vector l.initial.work (dense_right_at l.s l.d) (field (rows_below l.anchor l.c) (right_of l.anchor (load term l.initial.work 0 l.s.cameras))))
-    × (length l.work ≡ length l.initial.work)
-
-abbrev pub decreases-loop-c : goal.decreases-loop-c
-decreases-loop-c l = l.n - l.c
+    l.work ≡ store vector l.initial.work (dense_right_at l.s l.d) (field (rows_below l.anchor l.c) (right_of l.anchor (load term l.initial.work 0 l.s.cameras)))

@@ -1,8 +1,9 @@
+use Rattle.cholesky.proofs.Factored.{given}
 use Rattle.dense.proofs.Solving.{placed-stops, placed-done}
 use Rattle.dense.proofs.cameras.place_cameras.Goals as goal
 
-pub returns-in_default : goal.returns-in_default
-returns-in_default c = search placed-stops
+pub returns-in_err-solve_right : goal.returns-in_err-solve_right
+returns-in_err-solve_right c = rw (given c.from_residual.ensures.1) (search (placed-stops, c.in_err-solve_right.was))
 
 pub returns : goal.returns
-returns c = search placed-done
+returns c = search (placed-done, c.in_ok-solve_right.was)

@@ -1,6 +1,4 @@
 use mathlib.Core.Path.{◌≡◌}
-use Prim.Native.Nat.{◌≤◌, ◌-◌}
-use lib.ListN.{length}
 use Rattle.field.specs.Count.{field}
 use Rattle.field.specs.Buffer.{load, store, vector}
 use Rattle.system.specs.Work.{positions_at, dense_right_at}
@@ -9,8 +7,4 @@ use Rattle.dense.proofs.cameras.spread.Given as goal
 
 abbrev pub invariant-loop-c : goal.invariant-loop-c
 invariant-loop-c l =
-    (l.c ≤ l.n) × (l.work ≡ store vector l.initial.work (positions_at l.s) (field l.c (camera_vector l.anchor (load vector l.initial.work (dense_right_at l.s l.d) l.d))))
-    × (length l.work ≡ length l.initial.work)
-
-abbrev pub decreases-loop-c : goal.decreases-loop-c
-decreases-loop-c l = l.n - l.c
+    l.work ≡ store vector l.initial.work (positions_at l.s) (field l.c (camera_vector l.anchor (load vector l.initial.work (dense_right_at l.s l.d) l.d)))

@@ -1,14 +1,9 @@
-use mathlib.Core.Path.{refl}
-use native.Mathlib.Omega.{arith}
-use Rattle.dense.proofs.Changes.{changes-none, changes-ended}
+use Rattle.dense.proofs.Changes.{changes-none}
 use Rattle.dense.proofs.Steps.{directions-more}
 use Rattle.dense.proofs.couplings.couple_directions.Goals as goal
 
 pub loop-k-init : goal.loop-k-init
-loop-k-init c = (omega arith, search changes-none, refl)
+loop-k-init c = search changes-none
 
 pub loop-k-preserved : goal.loop-k-preserved
-loop-k-preserved c = (omega arith, search directions-more, omega arith)
-
-pub returns : goal.returns
-returns c = search changes-ended
+loop-k-preserved c = let h = rw c.shape-k-end.ensures.value at c.loop-k-test.true in search directions-more

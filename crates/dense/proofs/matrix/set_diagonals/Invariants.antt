@@ -1,13 +1,8 @@
 use mathlib.Core.Path.{◌≡◌}
-use Prim.Native.Nat.{◌≤◌, ◌-◌}
-use lib.ListN.{length}
 use Rattle.dense.specs.Matrix.{times, diagonal_step}
 use Rattle.dense.specs.inner.Held.{matrix_changed}
 use Rattle.dense.proofs.matrix.set_diagonals.Given as goal
 
 abbrev pub invariant-loop-c : goal.invariant-loop-c
 invariant-loop-c l =
-    (l.c ≤ l.n) × (l.work ≡ matrix_changed l.s l.d (times (diagonal_step l.anchor l.d) l.c) l.initial.work) × (length l.work ≡ length l.initial.work)
-
-abbrev pub decreases-loop-c : goal.decreases-loop-c
-decreases-loop-c l = l.n - l.c
+    l.work ≡ matrix_changed l.s l.d (times (diagonal_step l.anchor l.d) l.c) l.initial.work

@@ -1,8 +1,10 @@
 use Rattle.exports.proofs.Reports.{earlier-refused, earlier-unstored}
 use Rattle.exports.proofs.codes.unreported.Goals as goal
+use Rattle.exports.proofs.codes.unreported.Goals.{then-report-gt0, else-report-gt0}
 
-pub returns-then-report-gt0 : goal.returns-then-report-gt0
-returns-then-report-gt0 c = search earlier-refused
-
-pub returns-else-report-gt0 : goal.returns-else-report-gt0
-returns-else-report-gt0 c = search earlier-unstored
+pub returns-after-report-gt0 : goal.returns-after-report-gt0
+returns-after-report-gt0 c =
+    elim c.if-report-gt0.branch [
+      | then-report-gt0 w ↦ earlier-refused w.report-is c.in-Err.is c.number.ensures
+      | else-report-gt0 w ↦ rw w.report-is (earlier-unstored _ w.if-report-gt0.false c.in-Err.is c.number.ensures)
+    ]

@@ -1,5 +1,4 @@
-use native.Mathlib.Omega.{arith}
-use Rattle.graph.proofs.Counts.{labels-none, label-own, label-other, labels-all}
+use Rattle.graph.proofs.Counts.{labels-none, label-own, label-other}
 use Rattle.graph.proofs.forest.list_labels.Goals as goal
 use Rattle.graph.proofs.forest.list_labels.Goals.{then-label-c, else-label-c}
 
@@ -8,8 +7,3 @@ loop-c-init c = search labels-none
 
 pub loop-c-preserved : goal.loop-c-preserved
 loop-c-preserved c = elim c.if-label-c.branch [ then-label-c w ↦ search label-own | else-label-c w ↦ search label-other ]
-
-pub returns : goal.returns
-returns c =
-    let p = labels-all c.loop-c.invariant (omega arith) in
-    record { labels_after = p.0; value = p.1 }

@@ -1,10 +1,5 @@
-use Prim.Native.Nat.{◌-◌}
-use lib.ListN.{length}
 use Rattle.graph.proofs.Counts.{LabelledBelow}
 use Rattle.graph.proofs.forest.list_labels.Given as goal
 
 abbrev pub invariant-loop-c : goal.invariant-loop-c
 invariant-loop-c l = LabelledBelow l.initial.parents l.initial.labels l.parents l.labels l.count l.c
-
-abbrev pub decreases-loop-c : goal.decreases-loop-c
-decreases-loop-c l = length l.initial.labels - l.c

@@ -1,10 +1,7 @@
-use Prim.Native.Nat.{◌-◌}
-use lib.ListN.{length}
-use Rattle.graph.proofs.Forests.{Owned}
+use Prim.Native.Nat.{ℕ, ◌<◌}
+use mathlib.Core.Path.{◌≡◌}
+use Rattle.graph.specs.inner.Forest.{parent}
 use Rattle.graph.proofs.forest.make_singletons.Given as goal
 
 abbrev pub invariant-loop-i : goal.invariant-loop-i
-invariant-loop-i l = Owned l.i l.initial.parents l.parents
-
-abbrev pub decreases-loop-i : goal.decreases-loop-i
-decreases-loop-i l = length l.initial.parents - l.i
+invariant-loop-i l = (x : ℕ) → x < l.i → parent l.parents x ≡ x

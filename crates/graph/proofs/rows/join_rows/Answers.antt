@@ -1,9 +1,11 @@
-use native.Mathlib.Omega.{arith}
+use Rattle.std.proofs.Common.{ap, arith, ◌∙◌}
+use Rattle.network.specs.Network.{RowEnds, rows}
 use Rattle.graph.proofs.Spanning.{spans-none, spans_all}
 use Rattle.graph.proofs.rows.join_rows.Goals as goal
 
-pub loop-r-init : goal.loop-r-init
-loop-r-init c = (omega arith, omega arith, search spans-none)
+pub loop-row-init : goal.loop-row-init
+loop-row-init c = search spans-none
 
-pub returns : goal.returns
-returns c = record { spans = spans_all c.loop-r.invariant.2 (omega arith); parents_len_after = omega arith }
+pub returns-clause-spans : goal.returns-clause-spans
+returns-clause-spans c =
+    spans_all c.loop-row.invariant (omega (arith, ap rows (c.shape-s.ensures.value ∙ ap (λ (e : RowEnds). e.shape) c.ends.ensures)))

@@ -1,13 +1,8 @@
-use Prim.Native.Nat.{◌≤◌, ◌-◌}
-use mathlib.Core.Path.{◌≡◌}
-use lib.ListN.{length}
-use Rattle.field.specs.Buffer.{write}
-use Rattle.image.specs.Reading.{doubles_from}
+use Rattle.std.proofs.Common.{◌≡◌, ℕ, ◌<◌, get_or}
+use lib.Ieee.{nan}
+use Rattle.layout.specs.Bytes.{double_at}
+use Rattle.image.specs.Reading.{spread}
 use Rattle.image.proofs.fill.fill_doubles.Given as goal
 
 abbrev pub invariant-loop-k : goal.invariant-loop-k
-invariant-loop-k l =
-    (l.k ≤ length l.initial.out) × (length l.out ≡ length l.initial.out) × (l.out ≡ write l.initial.out 0 (doubles_from l.start l.stride l.group l.k l.bytes))
-
-abbrev pub decreases-loop-k : goal.decreases-loop-k
-decreases-loop-k l = length l.initial.out - l.k
+invariant-loop-k l = (j : ℕ) → j < l.k → get_or l.out j nan ≡ double_at l.bytes (spread l.start l.stride 8 l.group j)

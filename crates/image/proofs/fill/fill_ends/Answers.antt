@@ -1,14 +1,8 @@
-use mathlib.Core.Path.{refl}
-use lib.ListN.{length-set}
-use Rattle.image.proofs.Fills.{wholes-none, wholes-more, wholes-filled}
-use native.Mathlib.Omega.{arith}
+use Rattle.std.proofs.Common.{arith}
+use Rattle.image.specs.Reading.{wholes_from}
+use Rattle.image.proofs.Fills.{all-stored}
 use Rattle.image.proofs.fill.fill_ends.Goals as goal
 
-pub loop-k-init : goal.loop-k-init
-loop-k-init c = (omega arith, refl, search wholes-none)
-
-pub loop-k-preserved : goal.loop-k-preserved
-loop-k-preserved c = (omega arith, simp length-set (omega arith), search wholes-more)
-
 pub returns : goal.returns
-returns c = search wholes-filled
+unfolding wholes_from
+returns c = all-stored 0 _ _ _ _ c.loop-k.invariant (omega arith) (omega arith)

@@ -1,13 +1,7 @@
-use Prim.Native.Nat.{◌≤◌, ◌-◌}
-use mathlib.Core.Path.{◌≡◌}
-use lib.ListN.{length}
-use Rattle.field.specs.Buffer.{write}
-use Rattle.image.specs.Reading.{wholes_from}
+use Rattle.std.proofs.Common.{◌≡◌, ℕ, ◌<◌, get_or}
+use Rattle.layout.specs.Bytes.{u32_at}
+use Rattle.image.specs.Reading.{spread}
 use Rattle.image.proofs.fill.fill_ends.Given as goal
 
 abbrev pub invariant-loop-k : goal.invariant-loop-k
-invariant-loop-k l =
-    (l.k ≤ length l.initial.ends) × (length l.ends ≡ length l.initial.ends) × (l.ends ≡ write l.initial.ends 0 (wholes_from l.at 48 2 l.k l.bytes))
-
-abbrev pub decreases-loop-k : goal.decreases-loop-k
-decreases-loop-k l = length l.initial.ends - l.k
+invariant-loop-k l = (j : ℕ) → j < l.k → get_or l.ends j 0 ≡ u32_at l.bytes (spread l.at 48 4 2 j)

@@ -1,16 +1,11 @@
-use Rattle.field.proofs.Counting.{lowest-zero}
-use Rattle.image.proofs.Searches.{found_here, none_here, none_found}
-use native.Mathlib.Omega.{arith}
+use Rattle.std.proofs.Common.{◌≡◌, true, false, arith, rules, tests}
+use Rattle.std.proofs.lemmas.Iterator.{first_from_Range}
+use Rattle.field.proofs.Counting.{lowest-searched}
+use Rattle.image.specs.Tests.{bad_length}
 use Rattle.image.proofs.head.find_length.Goals as goal
 
-pub loop-i-init : goal.loop-i-init
-loop-i-init c = (omega arith, lowest-zero _)
-
-pub returns-then-bad_length_at : goal.returns-then-bad_length_at
-returns-then-bad_length_at c = search found_here
-
-pub loop-i-preserved : goal.loop-i-preserved
-loop-i-preserved c = (omega arith, search none_here)
-
 pub returns : goal.returns
-returns c = search none_found
+returns c =
+    let p = bad_length c.args.sizes.now c.args.bytes.now in
+    lowest-searched p 0 _ (λ k h. absurd (omega arith))
+    (first_from_Range _ _ _ _ (λ i. p i ≡ true) (λ i. p i ≡ false) c.find.ensures.ran (λ x q k. search (rules, tests)) (λ x q k. (search rules, search (rules, tests))))

@@ -1,6 +1,5 @@
-use Rattle.double.proofs.Truth.{and_is}
 use Rattle.image.proofs.Domain.{vector-is}
 use Rattle.image.proofs.rows.bad_vector_at.Goals as goal
 
 pub returns : goal.returns
-returns c = search (vector-is, and_is)
+returns c = search vector-is

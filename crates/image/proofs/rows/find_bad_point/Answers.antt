@@ -1,17 +1,14 @@
-use Rattle.field.proofs.Counting.{lowest-zero}
-use Rattle.image.proofs.Searches.{found_here, none_here, none_found}
-use Rattle.image.proofs.Domain.{point-is}
-use native.Mathlib.Omega.{arith}
+use Rattle.std.proofs.Common.{◌≡◌, ℕ, ◌+◌, ◌*◌, ◌∙◌, Bool, true, false, arith, rules, tests}
+use Rattle.std.proofs.lemmas.Iterator.{first_from_Range}
+use Rattle.field.proofs.Counting.{lowest-searched}
+use Rattle.network.specs.Refusals.{bad_vector}
+use Rattle.image.specs.Reading.{points_from}
+use Rattle.image.proofs.Domain.{points-apart}
 use Rattle.image.proofs.rows.find_bad_point.Goals as goal
 
-pub loop-i-init : goal.loop-i-init
-loop-i-init c = (omega arith, lowest-zero _)
-
-pub returns-then-bad_vector_at : goal.returns-then-bad_vector_at
-returns-then-bad_vector_at c = search (found_here, point-is)
-
-pub loop-i-preserved : goal.loop-i-preserved
-loop-i-preserved c = (omega arith, search (none_here, point-is))
-
 pub returns : goal.returns
-returns c = search none_found
+returns c =
+    let p : ℕ → Bool = λ i. bad_vector (points_from (c.args.at + 24 * i) 1 c.args.bytes.now) 0 in
+    lowest-searched p 0 _ (λ k h. absurd (omega arith))
+    (first_from_Range _ _ _ _ (λ i. p i ≡ true) (λ i. p i ≡ false) c.find.ensures.ran (λ x q k. search (rules, tests)) (λ x q k. (search rules, search (rules, tests))))
+    ∙ points-apart c.args.at c.args.m c.args.bytes.now

@@ -1,17 +1,13 @@
-use Rattle.field.proofs.Counting.{lowest-zero}
-use Rattle.image.proofs.Searches.{found_here, none_here, none_found}
-use Rattle.image.proofs.Domain.{row_is}
-use native.Mathlib.Omega.{arith}
+use Rattle.std.proofs.Common.{◌≡◌, ℕ, ◌+◌, ◌*◌, ◌∙◌, Bool, true, false, arith, rules, tests}
+use Rattle.std.proofs.lemmas.Iterator.{first_from_Range}
+use Rattle.field.proofs.Counting.{lowest-searched}
+use Rattle.image.specs.inner.Sound.{bad_row_from}
+use Rattle.image.proofs.Domain.{rows-apart}
 use Rattle.image.proofs.rows.find_bad_row.Goals as goal
 
-pub loop-r-init : goal.loop-r-init
-loop-r-init c = (omega arith, lowest-zero _)
-
-pub returns-then-bad_row_at : goal.returns-then-bad_row_at
-returns-then-bad_row_at c = search (found_here, row_is)
-
-pub loop-r-preserved : goal.loop-r-preserved
-loop-r-preserved c = (omega arith, search (none_here, row_is))
-
 pub returns : goal.returns
-returns c = search none_found
+returns c =
+    let p : ℕ → Bool = λ i. bad_row_from (c.args.at + 48 * i) 1 c.args.bytes.now 0 in
+    lowest-searched p 0 _ (λ k h. absurd (omega arith))
+    (first_from_Range _ _ _ _ (λ i. p i ≡ true) (λ i. p i ≡ false) c.find.ensures.ran (λ x q k. search (rules, tests)) (λ x q k. (search rules, search (rules, tests))))
+    ∙ rows-apart c.args.at c.args.count c.args.bytes.now

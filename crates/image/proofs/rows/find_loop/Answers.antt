@@ -1,16 +1,13 @@
-use Rattle.field.proofs.Counting.{lowest-zero}
-use Rattle.image.proofs.Searches.{found_here, none_here, none_found}
-use native.Mathlib.Omega.{arith}
+use Rattle.std.proofs.Common.{◌≡◌, true, false, arith, rules, tests}
+use Rattle.std.proofs.lemmas.Iterator.{first_from_Range}
+use Rattle.field.proofs.Counting.{lowest-searched}
+use Rattle.network.specs.Network.{rows}
+use Rattle.network.specs.Refusals.{loops}
+use Rattle.image.specs.Reading.{ends_from}
 use Rattle.image.proofs.rows.find_loop.Goals as goal
 
-pub loop-r-init : goal.loop-r-init
-loop-r-init c = (omega arith, lowest-zero _)
-
-pub returns-then-loops_at : goal.returns-then-loops_at
-returns-then-loops_at c = search found_here
-
-pub loop-r-preserved : goal.loop-r-preserved
-loop-r-preserved c = (omega arith, search none_here)
-
 pub returns : goal.returns
-returns c = search none_found
+returns c =
+    let p = loops c.args.s.bearings (ends_from c.args.at (rows c.args.s) c.args.bytes.now) in
+    lowest-searched p 0 _ (λ k h. absurd (omega arith))
+    (first_from_Range _ _ _ _ (λ i. p i ≡ true) (λ i. p i ≡ false) c.find.ensures.ran (λ x q k. search (rules, tests)) (λ x q k. (search rules, search (rules, tests))))

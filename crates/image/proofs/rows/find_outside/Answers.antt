@@ -3,18 +3,18 @@ use Rattle.image.proofs.Domain.{place-fits}
 use Rattle.image.specs.Reading.{content_from}
 use Rattle.image.proofs.rows.find_outside.Goals as goal
 
-pub returns-in-At : goal.returns-in-At
+pub returns-in-Some : goal.returns-in-Some
 unfolding content_from
-returns-in-At c = search first-of-two
+returns-in-Some c = search first-of-two
+
+pub returns-in_err-p : goal.returns-in_err-p
+unfolding content_from
+returns-in_err-p c = rw c.from_residual.ensures (search (none_of_two, c.in_err-p.was))
 
 pub overflow_add-result : goal.overflow_add-result
 unfolding content_from
-overflow_add-result c = search place-fits
-
-pub returns-in-At-point : goal.returns-in-At-point
-unfolding content_from
-returns-in-At-point c = search second-of-two
+overflow_add-result c = search (place-fits, c.in_ok-p.was)
 
 pub returns : goal.returns
 unfolding content_from
-returns c = search none_of_two
+returns c = search (second-of-two, c.in_ok-p.was)

@@ -1,25 +1,29 @@
-use Rattle.network.proofs.Verdicts.{halts-in, passes-in}
+use Rattle.network.proofs.Verdicts.{halts-in, handed-out, passes-in}
 use Rattle.network.proofs.Sound.{counted, measured, content-fits}
 use Rattle.image.proofs.Passing.{lengths-is}
 use Rattle.image.specs.Tests.{write_tests}
 use Rattle.image.proofs.writing.check_write.Goals as goal
 
-pub returns-in-Refused : goal.returns-in-Refused
+pub returns-in_err-check_counts : goal.returns-in_err-check_counts
 unfolding write_tests
-returns-in-Refused c = search halts-in
+returns-in_err-check_counts c = handed-out c.from_residual.ensures.1 (search (halts-in, c.in_err-check_counts.was))
 
 pub content_fits-requires : goal.content_fits-requires
 unfolding write_tests
-content_fits-requires c = search counted
+content_fits-requires c = search (counted, c.in_ok-check_counts.was)
 
-pub returns-in-Refused-lengths : goal.returns-in-Refused-lengths
+pub returns-in_err-check_lengths : goal.returns-in_err-check_lengths
 unfolding write_tests
-returns-in-Refused-lengths c = search (passes-in, halts-in, lengths-is)
+returns-in_err-check_lengths c =
+    handed-out c.from_residual-in_err-check_lengths.ensures.1 (search (passes-in, halts-in, lengths-is, c.in_ok-check_counts.was, c.in_err-check_lengths.was))
 
 pub check_rows_and_room-requires : goal.check_rows_and_room-requires
 unfolding write_tests
-check_rows_and_room-requires c = record { shape_sound = search counted; content_lengths = search (content-fits, measured) }
+check_rows_and_room-requires c = record {
+  shape_sound = search (counted, c.in_ok-check_counts.was);
+  content_lengths = search (content-fits, measured, c.in_ok-check_lengths.was);
+}
 
 pub returns : goal.returns
 unfolding write_tests
-returns c = search (passes-in, lengths-is)
+returns c = search (passes-in, lengths-is, c.in_ok-check_counts.was, c.in_ok-check_lengths.was)

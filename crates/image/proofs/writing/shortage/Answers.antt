@@ -6,6 +6,6 @@ pub returns-then-room-needed : goal.returns-then-room-needed
 unfolding shorter
 returns-then-room-needed c = rw (lt-ltb _ _ c.if-room-needed.true)
 
-pub returns : goal.returns
+pub returns-else-room-needed : goal.returns-else-room-needed
 unfolding shorter
-returns c = rw (le-ltb _ _ c.if-room-needed.false)
+returns-else-room-needed c = rw (le-ltb _ _ c.if-room-needed.false)

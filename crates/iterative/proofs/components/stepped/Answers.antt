@@ -3,4 +3,4 @@ use Rattle.iterative.proofs.components.stepped.Goals as goal
 
 pub returns : goal.returns
 unfolding stepped
-returns c = rw (c.step_one.ensures, c.step_one-2.ensures, c.step_one-3.ensures)
+returns g c op h = rw (c.step_one.ensures op h, c.step_one-2.ensures op h, c.step_one-3.ensures op h)

@@ -1,8 +1,5 @@
-use Rattle.iterative.proofs.Solving.{concluded-failed, concluded-running, concluded-ended}
+use Rattle.iterative.proofs.Solving.{concluded-running, concluded-ended}
 use Rattle.iterative.proofs.ends.conclude.Goals as goal
-
-pub returns-in-Failed : goal.returns-in-Failed
-returns-in-Failed c = search concluded-failed
 
 pub returns-in-Running : goal.returns-in-Running
 returns-in-Running c = search concluded-running

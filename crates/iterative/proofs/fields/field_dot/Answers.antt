@@ -1,12 +1,14 @@
-use native.Mathlib.Omega.{arith}
-use Rattle.iterative.proofs.Entries.{dot-none, dot-more, dot-ended}
+use Rattle.iterative.proofs.Entries.{dot-none, dot-more}
+use Rattle.iterative.specs.Problem.{field_dot}
+use borrow.Author.Rules.{rules}
 use Rattle.iterative.proofs.fields.field_dot.Goals as goal
 
 pub loop-i-init : goal.loop-i-init
-loop-i-init c = (omega arith, search dot-none)
+loop-i-init c = search dot-none
 
 pub loop-i-preserved : goal.loop-i-preserved
-loop-i-preserved c = (omega arith, search dot-more)
+loop-i-preserved c = search dot-more
 
 pub returns : goal.returns
-returns c = search dot-ended
+unfolding field_dot
+returns c = search rules

@@ -1,5 +1,4 @@
 use mathlib.Core.Path.{◌≡◌}
-use Prim.Native.Nat.{◌≤◌, ◌-◌}
 use Rattle.field.specs.Buffer.{load, vector}
 use Rattle.field.specs.Count.{upto}
 use Rattle.field.specs.Vec.{origin}
@@ -8,7 +7,4 @@ use Rattle.iterative.proofs.fields.field_dot.Given as goal
 
 abbrev pub invariant-loop-i : goal.invariant-loop-i
 invariant-loop-i l =
-    (l.i ≤ l.n) × (l.sum ≡ upto (dot_step l.anchor (load vector l.work l.p l.n) (load vector l.work l.q l.n)) l.i origin)
-
-abbrev pub decreases-loop-i : goal.decreases-loop-i
-decreases-loop-i l = l.n - l.i
+    l.sum ≡ upto (dot_step l.anchor (load vector l.work l.p l.n) (load vector l.work l.q l.n)) l.i origin

@@ -1,16 +1,10 @@
-use native.Mathlib.Omega.{arith}
-use Rattle.field.proofs.Counting.{lowest-zero}
-use Rattle.iterative.proofs.Entries.{bad-found, bad-not, bad-none}
+use Rattle.std.proofs.Common.{◌≡◌, true, false, rules, tests}
+use Rattle.std.proofs.lemmas.Iterator.{first_from_Range}
+use Rattle.iterative.proofs.Entries.{bad_in, bad-searched}
 use Rattle.iterative.proofs.fields.find_bad_diagonal.Goals as goal
 
-pub loop-i-init : goal.loop-i-init
-loop-i-init c = (omega arith, search lowest-zero)
-
-pub returns-then-bad_at : goal.returns-then-bad_at
-returns-then-bad_at c = search bad-found
-
-pub loop-i-preserved : goal.loop-i-preserved
-loop-i-preserved c = (omega arith, search bad-not)
-
 pub returns : goal.returns
-returns c = search bad-none
+returns c =
+    let p = bad_in c.args.work.now c.args.anchor in
+    bad-searched _ _ _
+    (first_from_Range _ _ _ _ (λ i. p i ≡ true) (λ i. p i ≡ false) c.find.ensures.ran (λ x q k. search (rules, tests)) (λ x q k. (search rules, search (rules, tests))))

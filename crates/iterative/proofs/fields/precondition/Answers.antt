@@ -1,18 +1,11 @@
-use mathlib.Core.Path.{refl}
-use native.Mathlib.Omega.{arith}
-use Rattle.iterative.proofs.Entries.{fill-dot-none, fill-dot-field, fill-dot-sum, precondition-turn}
 use borrow.Author.Rules.{rules}
+use native.Mathlib.Omega.{arith}
+use Rattle.iterative.specs.Problem.{field_dot}
+use Rattle.iterative.proofs.Entries.{preconditioned-made}
 use Rattle.iterative.proofs.fields.precondition.Goals as goal
 
-pub loop-i-init : goal.loop-i-init
-loop-i-init c = (omega arith, search fill-dot-none, refl)
-
-pub loop-i-preserved : goal.loop-i-preserved
-loop-i-preserved c = (
-  omega arith,
-  precondition-turn _ _ _ _ _ _ (omega arith) _ _ (omega arith) (omega arith) _ _ (omega arith) c.loop-i.invariant.1 (search rules),
-  omega arith,
-)
-
 pub returns : goal.returns
-returns c = record { field = search fill-dot-field; dot = search fill-dot-sum }
+unfolding field_dot
+returns c =
+    let S = c.fill_summed.ensures _ (λ x i v h e p. preconditioned-made c.args.s.cameras _ _ _ i v h c.args.from c.args.into (omega (arith, c.requires.shape.cameras, c.requires.first)) c.requires.apart e (search (rules, p))) in
+    record { field = S.filled; dot = S.prior c.requires.apart }

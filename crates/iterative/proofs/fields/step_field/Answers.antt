@@ -1,14 +1,11 @@
-use mathlib.Core.Path.{refl}
-use native.Mathlib.Omega.{arith}
-use Rattle.iterative.proofs.Entries.{fill-dot-none, fill-dot-field, fill-dot-sum, stepped-turn}
 use borrow.Author.Rules.{rules}
+use mathlib.Core.Path.{refl}
+use Rattle.iterative.specs.Problem.{field_dot}
+use Rattle.iterative.proofs.Entries.{stepped-made}
 use Rattle.iterative.proofs.fields.step_field.Goals as goal
 
-pub loop-i-init : goal.loop-i-init
-loop-i-init c = (omega arith, search fill-dot-none, refl)
-
-pub loop-i-preserved : goal.loop-i-preserved
-loop-i-preserved c = (omega arith, (stepped-turn _ _ _ _ _ _ (omega arith) _ _ _ _ _ (omega arith) _ _ (omega arith) c.loop-i.invariant.1 (search rules)), omega arith)
-
 pub returns : goal.returns
-returns c = record { field = search fill-dot-field; dot = search fill-dot-sum }
+unfolding field_dot
+returns g c op k =
+    let S = c.fill_summed.ensures _ (λ x i v h e p. stepped-made _ _ _ _ i v h op _ _ _ _ c.requires.room.apart e (search (rules, k, p))) in
+    record { field = S.filled; dot = S.own refl }

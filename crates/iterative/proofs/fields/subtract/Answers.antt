@@ -1,14 +1,6 @@
-use mathlib.Core.Path.{refl}
-use native.Mathlib.Omega.{arith}
-use Rattle.field.proofs.Fills.{fill_none, fill-ended}
-use Rattle.iterative.proofs.Entries.{difference-more}
+use borrow.Author.Rules.{rules}
+use Rattle.iterative.proofs.Entries.{difference-made}
 use Rattle.iterative.proofs.fields.subtract.Goals as goal
 
-pub loop-i-init : goal.loop-i-init
-loop-i-init c = (omega arith, search fill_none, refl)
-
-pub loop-i-preserved : goal.loop-i-preserved
-loop-i-preserved c = (omega arith, search (difference-more, arith), omega arith)
-
 pub returns : goal.returns
-returns c = search fill-ended
+returns c = c.fill.ensures _ (λ x i v h e p. difference-made _ 0 _ _ i v h _ _ c.requires.apart e (search (rules, p)))

@@ -3,7 +3,7 @@ use borrow.Author.Rules.{rules}
 use Rattle.iterative.proofs.rounds.iterate.Goals as goal
 
 pub rounds-requires : goal.rounds-requires
-rounds-requires c = record { links_sound = search rules; s_in_bounds = search rules; bound_value = search bound-right; count_value = search rules }
+rounds-requires c = record { s_in_bounds = search rules; bound_value = search bound-right; count_value = search rules }
 
 pub returns-then-any : goal.returns-then-any
 returns-then-any c = search iterated-begun

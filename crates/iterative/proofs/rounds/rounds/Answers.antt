@@ -1,22 +1,17 @@
-use native.Mathlib.Omega.{arith}
-use Rattle.iterative.proofs.Running.{rounds-bound, rounds-count, rounds-done, rounds-ended, rounds-failed, rounds-next, rounds-none, rounds-room}
-use borrow.Author.Rules.{rules}
+use Rattle.std.proofs.Common.{◌≡◌, ◌∙◌, ap, Ok}
+use Rattle.network.proofs.Verdicts.{given}
+use Rattle.iterative.specs.declared.Step.TheVariants.{Ended, Running}
+use Rattle.iterative.proofs.Running.{rounds-next, rounds-none, rounds-failed, rounds-done}
 use Rattle.iterative.proofs.rounds.rounds.Goals as goal
 
-pub loop-k-init : goal.loop-k-init
-loop-k-init c = (omega arith, search rounds-none)
+pub loop-init : goal.loop-init
+loop-init c = search rounds-none
 
-pub round-x-requires : goal.round-x-requires
-round-x-requires c = record { links_sound = search rules; s_in_bounds = search rounds-room; bound_value = search rounds-bound; count_bound = search rounds-count }
-
-pub returns-in-Failed : goal.returns-in-Failed
-returns-in-Failed c = search rounds-failed
+pub returns-in_err-n : goal.returns-in_err-n
+returns-in_err-n c = rw (given c.from_residual.ensures.1) (let m = rw c.shape.ensures.value at c.most_rounds-most.ensures in search (rounds-failed, c.in_err-n.was))
 
 pub returns-in-Ended : goal.returns-in-Ended
-returns-in-Ended c = search rounds-done
+returns-in-Ended c = let e : c.round.result ≡ Ok (Ended c.in-Ended.n) = c.in_ok-n.was ∙ ap Ok c.in-Ended.is in let m = rw c.shape.ensures.value at c.most_rounds-most.ensures in search rounds-done
 
-pub loop-k-preserved : goal.loop-k-preserved
-loop-k-preserved c = (omega arith, search rounds-next)
-
-pub returns : goal.returns
-returns c = search rounds-ended
+pub loop-preserved : goal.loop-preserved
+loop-preserved c = let e : c.round.result ≡ Ok (Running c.in-Running.n) = c.in_ok-n.was ∙ ap Ok c.in-Running.is in search rounds-next

@@ -1,10 +1,16 @@
+use Rattle.network.proofs.Verdicts.{given, test-at-passed}
+use Rattle.network.specs.declared.Cause.TheVariants.{Curvature}
+use mathlib.Core.Path.{sym, ◌∙◌}
 use Rattle.iterative.proofs.Rounding.{step-failed, step-done}
 use Rattle.iterative.proofs.rounds.step.Goals as goal
 
-pub returns-in-At : goal.returns-in-At
-returns-in-At c = search step-failed
+pub returns-in_err-refused_at : goal.returns-in_err-refused_at
+returns-in_err-refused_at c =
+    rw (given c.from_residual.ensures.1)
+    (step-failed _ _ _ c.requires.fields_fit _ _ _ _ _ c.search_at.ensures c.applied_at.ensures c.field_dot-curvature.ensures c.find_bad_curvature.ensures
+    c.refused_at.ensures c.in_err-refused_at.was)
 
-pub returns-in-Nowhere : goal.returns-in-Nowhere
-returns-in-Nowhere c =
-    step-done _ _ _ c.requires.fields_fit _ _ _ _ _ c.search_at.ensures c.applied_at.ensures c.field_dot-curvature.ensures c.find_bad_curvature-place.ensures
-    _ _ _ _ c.in-Nowhere.is c.move_along-t.ensures c.go_on.ensures
+pub returns : goal.returns
+returns c =
+    step-done _ _ _ c.requires.fields_fit _ _ _ _ _ c.search_at.ensures c.applied_at.ensures c.field_dot-curvature.ensures c.find_bad_curvature.ensures
+    _ _ _ _ (test-at-passed Curvature _ (sym c.refused_at.ensures ∙ c.in_ok-refused_at.was)) c.move_along-t.ensures c.go_on.ensures

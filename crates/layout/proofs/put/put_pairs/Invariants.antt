@@ -1,6 +1,4 @@
-use Prim.Native.Nat.{◌+◌, ◌≤◌, ◌-◌}
-use mathlib.Core.Path.{◌≡◌}
-use lib.ListN.{length, take}
+use Rattle.std.proofs.Common.{◌≡◌, ◌+◌, take}
 use Rattle.field.specs.Buffer.{write}
 use Rattle.layout.specs.Bytes.{total}
 use Rattle.layout.specs.Image.{pairs}
@@ -8,7 +6,4 @@ use Rattle.layout.proofs.put.put_pairs.Given as goal
 
 abbrev pub invariant-loop-i : goal.invariant-loop-i
 invariant-loop-i l =
-    (l.i ≤ length l.sizes) × (length l.out ≡ length l.initial.out) × (l.offset ≡ l.start + total (take l.i l.sizes)) × (l.out ≡ write l.initial.out l.at (pairs l.start (take l.i l.sizes)))
-
-abbrev pub decreases-loop-i : goal.decreases-loop-i
-decreases-loop-i l = length l.sizes - l.i
+    (l.offset ≡ l.start + total (take l.i l.sizes)) × (l.out ≡ write l.initial.out l.at (pairs l.start (take l.i l.sizes)))

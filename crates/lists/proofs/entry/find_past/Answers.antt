@@ -1,16 +1,12 @@
-use native.Mathlib.Omega.{arith}
-use Rattle.field.proofs.Counting.{lowest-zero}
-use Rattle.lists.proofs.Entries.{past-found, past_more, past-none}
+use Rattle.std.proofs.Common.{◌≡◌, true, false, arith, rules, tests}
+use Rattle.std.proofs.lemmas.Iterator.{first_from_Range}
+use Rattle.field.proofs.Counting.{lowest-searched}
+use Rattle.lists.specs.PointLists.{past_points}
 use Rattle.lists.proofs.entry.find_past.Goals as goal
 
-pub loop-r-init : goal.loop-r-init
-loop-r-init c = (omega arith, lowest-zero _)
-
-pub returns-then-m-ends : goal.returns-then-m-ends
-returns-then-m-ends c = search (past-found, arith)
-
-pub loop-r-preserved : goal.loop-r-preserved
-loop-r-preserved c = (omega arith, search past_more)
-
 pub returns : goal.returns
-returns c = search past-none
+unfolding past_points
+returns c =
+    let p = past_points c.args.m c.args.ends.now in
+    lowest-searched p 0 _ (λ k h. absurd (omega arith))
+    (first_from_Range _ _ _ _ (λ i. p i ≡ true) (λ i. p i ≡ false) c.find.ensures.ran (λ x q k. search (rules, tests)) (λ x q k. (search rules, search (rules, tests))))

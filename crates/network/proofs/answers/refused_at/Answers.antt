@@ -2,10 +2,10 @@ use borrow.Author.Rules.{rules}
 use Rattle.network.specs.Refusals.{test_at}
 use Rattle.network.proofs.answers.refused_at.Goals as goal
 
-pub returns-in-At : goal.returns-in-At
+pub returns-in-Some : goal.returns-in-Some
 unfolding test_at
-returns-in-At c = rw c.in-At.is
+returns-in-Some c = rw c.in-Some.is
 
-pub returns-in-Nowhere : goal.returns-in-Nowhere
+pub returns-in-None : goal.returns-in-None
 unfolding test_at
-returns-in-Nowhere c = search rules
+returns-in-None c = search rules

@@ -2,17 +2,17 @@ use native.Mathlib.Omega.{arith}
 use Rattle.network.proofs.Sections.{before-third, third, none-of-three, found_below}
 use Rattle.network.proofs.domain.find_placed_outside.Goals as goal
 
-pub returns-in-At : goal.returns-in-At
-returns-in-At c = search before-third
+pub returns-in-Some : goal.returns-in-Some
+returns-in-Some c = search before-third
 
-pub overflow_add-result-in-At-camera : goal.overflow_add-result-in-At-camera
-overflow_add-result-in-At-camera c = let h = found_below _ _ c.find_bad_vector-camera.ensures c.in-At-camera.is in omega arith
+pub overflow_add-result-2 : goal.overflow_add-result-2
+overflow_add-result-2 c = let h = found_below _ _ c.find_bad_vector.ensures c.in_ok-i.was in omega arith
 
-pub overflow_add-result-in-At-camera-2 : goal.overflow_add-result-in-At-camera-2
-overflow_add-result-in-At-camera-2 c = let h = found_below _ _ c.find_bad_vector-camera.ensures c.in-At-camera.is in omega arith
+pub overflow_add-result-3 : goal.overflow_add-result-3
+overflow_add-result-3 c = let h = found_below _ _ c.find_bad_vector.ensures c.in_ok-i.was in omega arith
 
-pub returns-in-At-camera : goal.returns-in-At-camera
-returns-in-At-camera c = search third
+pub returns-in_err-i : goal.returns-in_err-i
+returns-in_err-i c = rw c.from_residual.ensures (search (none-of-three, c.in_err-i.was))
 
 pub returns : goal.returns
-returns c = search none-of-three
+returns c = search (third, c.in_ok-i.was)

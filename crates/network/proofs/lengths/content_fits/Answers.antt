@@ -1,7 +1,7 @@
+use Rattle.std.proofs.Math.Bool.{and_assoc}
 use Rattle.network.specs.Refusals.{content_fits}
-use Rattle.double.proofs.Truth.{and_is}
 use Rattle.network.proofs.lengths.content_fits.Goals as goal
 
 pub returns : goal.returns
 unfolding content_fits
-returns c = search and_is
+returns c = rw and_assoc cc

@@ -1,5 +1,7 @@
-use Rattle.placement.proofs.Placing.{buffers-are}
+use Rattle.std.proofs.Math.Bool.{and_assoc}
+use Rattle.placement.specs.Routes.{buffers_fit}
 use Rattle.placement.proofs.checks.buffers_fit.Goals as goal
 
 pub returns : goal.returns
-returns c = search buffers-are
+unfolding buffers_fit
+returns c = simp and_assoc cc

@@ -1,9 +1,12 @@
-use Rattle.network.proofs.Verdicts.{halts-in, passes-in}
+use Rattle.network.proofs.Verdicts.{halts-in, handed-out, passes-in}
 use borrow.Author.Rules.{rules}
 use Rattle.placement.proofs.checks.check_rows.Goals as goal
 
-pub returns-in-Refused : goal.returns-in-Refused
-returns-in-Refused c = record { value = search halts-in; marks_after = search rules }
+pub returns-in_err-check_network_rows : goal.returns-in_err-check_network_rows
+returns-in_err-check_network_rows c = record {
+  value = handed-out c.from_residual.ensures.1 (search (halts-in, c.in_err-check_network_rows.was, c.check_network_rows.ensures.value));
+  marks_after = search rules;
+}
 
 pub returns : goal.returns
-returns c = record { value = search passes-in; marks_after = search rules }
+returns c = record { value = search (passes-in, c.in_ok-check_network_rows.was, c.check_network_rows.ensures.value); marks_after = search rules }

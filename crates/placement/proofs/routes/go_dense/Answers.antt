@@ -1,8 +1,8 @@
 use Rattle.placement.proofs.Routing.{dense-done, dense-stopped}
 use Rattle.placement.proofs.routes.go_dense.Goals as goal
 
-pub returns-in-Done : goal.returns-in-Done
-returns-in-Done c = search dense-done
+pub returns-in-Ok : goal.returns-in-Ok
+returns-in-Ok c = search (dense-done, c.in-Ok.ensures)
 
-pub returns-in-Stopped : goal.returns-in-Stopped
-returns-in-Stopped c = search dense-stopped
+pub returns-in-Err : goal.returns-in-Err
+returns-in-Err c = search (dense-stopped, c.in-Err.ensures)

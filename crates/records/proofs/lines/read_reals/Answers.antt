@@ -1,12 +1,20 @@
-use Rattle.records.proofs.Runs.{past-none, past_more, reals-none, reals-more, reals-read}
+use Prim.Native.Nat.{◌+◌, ◌-◌}
+use mathlib.Core.Path.{◌≡◌}
 use native.Mathlib.Omega.{arith}
+use Rattle.records.proofs.Runs.{past-none, past_more, reals-none, reals-more, reals-read}
 use Rattle.records.proofs.lines.read_reals.Goals as goal
 
-pub loop-i-init : goal.loop-i-init
-loop-i-init c = (omega arith, search past-none, search reals-none)
+pub loop-place-init : goal.loop-place-init
+loop-place-init c = let e : c.args.from - c.args.from ≡ 0 = omega arith in rw e (omega arith, search past-none, search reals-none)
 
-pub loop-i-preserved : goal.loop-i-preserved
-loop-i-preserved c = (omega arith, search past_more, search reals-more)
+pub loop-place-preserved : goal.loop-place-preserved
+loop-place-preserved c =
+    let from = c.args.from in
+    let place = c.loop-place.place in
+    let e : place + 1 - from ≡ place - from + 1 = omega arith in
+    let f : place ≡ from + (place - from) = omega arith in
+    let g = rw f at c.put.ensures in
+    rw e (omega arith, search past_more, search reals-more)
 
 pub returns : goal.returns
-returns c = search reals-read
+returns c = let e : c.loop-place.place - c.args.from ≡ c.args.to - c.args.from = omega arith in search reals-read

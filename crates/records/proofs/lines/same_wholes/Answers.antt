@@ -1,12 +1,13 @@
+use mathlib.Core.Path.{refl}
 use Rattle.records.proofs.Runs.{past-none, past_more, alike-none, alike-more, compared_is}
-use native.Mathlib.Omega.{arith}
 use Rattle.records.proofs.lines.same_wholes.Goals as goal
 
-pub loop-i-init : goal.loop-i-init
-loop-i-init c = (omega arith, search past-none, search alike-none)
+pub loop-number-init : goal.loop-number-init
+loop-number-init c = (search past-none, search alike-none)
 
-pub loop-i-preserved : goal.loop-i-preserved
-loop-i-preserved c = (omega arith, search past_more, search alike-more)
+pub loop-number-preserved : goal.loop-number-preserved
+loop-number-preserved c =
+    (search past_more, alike-more _ _ _ _ _ _ _ _ _ c.loop-number-test.true c.loop-number.invariant.0 c.decimal-whole.ensures c.loop-number.invariant.1 refl)
 
 pub returns : goal.returns
 returns c = search compared_is

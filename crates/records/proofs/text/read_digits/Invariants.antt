@@ -1,9 +1,5 @@
 use Rattle.records.proofs.Reading.{Reading}
-use Prim.Native.Nat.{◌-◌}
 use Rattle.records.proofs.text.read_digits.Given as goal
 
 abbrev pub invariant-loop-count : goal.invariant-loop-count
 invariant-loop-count l = Reading l.base l.most l.text l.value l.count
-
-abbrev pub decreases-loop-count : goal.decreases-loop-count
-decreases-loop-count l = l.most - l.count

@@ -1,13 +1,15 @@
-use Rattle.records.proofs.Reading.{number-ends, number_short, number_is}
+use Rattle.records.proofs.Reading.{number-ends, number-lost, number-short, number-is}
 use native.Mathlib.Omega.{arith}
 use Rattle.records.proofs.text.read_number.Goals as goal
 
+pub returns-in_default : goal.returns-in_default
+returns-in_default c = search (number-lost, c.in_default.is)
+
 pub returns-then-found-least : goal.returns-then-found-least
-returns-then-found-least c = search number_short
+returns-then-found-least c = search (number-short, c.in-Some.is)
 
 pub overflow_add-result : goal.overflow_add-result
-overflow_add-result c =
-    omega (arith, number-ends _ _ c.args.input.now _ c.step-start.result _ _ c.rest.ensures c.read_digits-found.ensures)
+overflow_add-result c = omega (arith, number-ends _ _ c.args.input.now _ c.in-Some.start _ _ c.rest.ensures c.read_digits-found.ensures)
 
 pub returns : goal.returns
-returns c = search number_is
+returns c = search (number-is, c.in-Some.is)

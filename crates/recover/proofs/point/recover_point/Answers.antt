@@ -2,7 +2,7 @@ use Rattle.recover.proofs.Points.{point-kept, point-new}
 use Rattle.recover.proofs.point.recover_point.Goals as goal
 
 pub returns-then-w : goal.returns-then-w
-returns-then-w c = search point-kept
+returns-then-w c = let w = rw c.shape.ensures.value at c.point_weight-w.ensures in search point-kept
 
 pub returns : goal.returns
-returns c = search point-new
+returns c = let w = rw c.shape.ensures.value at c.point_weight-w.ensures in search point-new

@@ -1,12 +1,8 @@
-use native.Mathlib.Omega.{arith}
-use Rattle.system.proofs.Sums.{pulls-none, pulls-more, pulls-ended}
+use Rattle.system.proofs.Sums.{pulls-none, pulls-more}
 use Rattle.recover.proofs.point.sum_sightings.Goals as goal
 
 pub loop-i-init : goal.loop-i-init
-loop-i-init c = (omega arith, search pulls-none, omega arith)
+loop-i-init c = search pulls-none
 
 pub loop-i-preserved : goal.loop-i-preserved
-loop-i-preserved c = (omega arith, search pulls-more, omega arith)
-
-pub returns : goal.returns
-returns c = search pulls-ended
+loop-i-preserved c = let s = rw c.ends-e.ensures at c.sight.ensures in search pulls-more

@@ -1,14 +1,11 @@
-use Rattle.recover.proofs.Stores.{stored-none, stored-ended}
-use Rattle.recover.proofs.Rescaling.{directions-more}
-use mathlib.Core.Path.{refl}
-use native.Mathlib.Omega.{arith}
+use Rattle.recover.proofs.Rescaling.{directions_none, directions-more}
 use Rattle.recover.proofs.rescale.rescale_directions.Goals as goal
 
-pub loop-i-init : goal.loop-i-init
-loop-i-init c = (omega arith, search stored-none, refl)
+pub loop-r-init : goal.loop-r-init
+loop-r-init c = rw c.shape-s.ensures.value (search directions_none)
 
-pub loop-i-preserved : goal.loop-i-preserved
-loop-i-preserved c = (omega arith, search directions-more, omega arith)
-
-pub returns : goal.returns
-returns c = search stored-ended
+pub loop-r-preserved : goal.loop-r-preserved
+loop-r-preserved c =
+    let b = rw c.shape-s.ensures.value at c.loop-r.near-r in
+    let k = rw (c.shape-s.ensures.value, c.weight.ensures) at c.keeps_direction-keeps.ensures in
+    search directions-more

@@ -1,14 +1,9 @@
-use Rattle.recover.proofs.Stores.{stored-none, stored-ended}
+use Rattle.recover.proofs.Stores.{stored-none}
 use Rattle.recover.proofs.Rescaling.{list-more}
-use mathlib.Core.Path.{refl}
-use native.Mathlib.Omega.{arith}
 use Rattle.recover.proofs.rescale.rescale_list.Goals as goal
 
-pub loop-i-init : goal.loop-i-init
-loop-i-init c = (omega arith, search stored-none, refl)
+pub loop-j-init : goal.loop-j-init
+loop-j-init c = search stored-none
 
-pub loop-i-preserved : goal.loop-i-preserved
-loop-i-preserved c = (omega arith, search list-more, omega arith)
-
-pub returns : goal.returns
-returns c = search stored-ended
+pub loop-j-preserved : goal.loop-j-preserved
+loop-j-preserved c = search list-more

@@ -1,4 +1,3 @@
-use native.Mathlib.Omega.{arith}
 use Rattle.system.proofs.Anchor.{best_none, best-more, best-ended}
 use Rattle.system.proofs.Terms.{degree-at}
 use lib.Ieee.{neg, of_bits}
@@ -6,16 +5,10 @@ use Rattle.system.proofs.assembly.pick_anchor.Goals as goal
 
 pub loop-c-init : goal.loop-c-init
 unfolding neg of_bits
-loop-c-init c = (omega arith, best_none _)
-
-pub loop-c-smaller : goal.loop-c-smaller
-unfolding neg of_bits
-loop-c-smaller c = omega arith
+loop-c-init c = best_none _
 
 pub loop-c-preserved : goal.loop-c-preserved
-unfolding neg of_bits
-loop-c-preserved c = (omega arith, search (best-more, degree-at))
+loop-c-preserved c = search (best-more, degree-at)
 
 pub returns : goal.returns
-unfolding neg of_bits
 returns c = search best-ended

@@ -1,5 +1,0 @@
-use Rattle.recover.proofs.Rows.{baseline-is}
-use Rattle.recover.proofs.row.baseline.Goals as goal
-
-pub returns : goal.returns
-returns c = search baseline-is
