@@ -163,6 +163,21 @@ fn count(tally: &mut [usize], place: usize) {
     }
 }
 
+// An answer among those met.
+fn count_answer(answer: Result<Report, Refusal>, tally: &mut Tally) {
+    match answer {
+        Err(r) => count(&mut tally.refused, r.cause.number()),
+        Ok(report) => count(&mut tally.accepted, report.route),
+    }
+}
+
+// The doubles that are needed end as zeros, and the others untouched.
+fn is_cleared(work: &[f64], needed: usize) -> bool
+    requires { needed ≤ length work.now }
+{
+    all_are(&work[..needed], 0.0) && all_are(&work[needed..], JUNK)
+}
+
 fn check_solve(case: Case, lists: Lists, text: &mut Text, tally: &mut Tally) -> bool
     requires { (case.shape.cameras ≤ 64) × (case.shape.points ≤ 64) × (case.shape.bearings ≤ 64) }
 {
@@ -190,14 +205,10 @@ fn check_solve(case: Case, lists: Lists, text: &mut Text, tally: &mut Tally) -> 
         &mut cameras[..3 * s.cameras],
         &mut placed[..3 * s.points],
     );
-    match answer {
-        Err(r) => count(&mut tally.refused, r.cause.number()),
-        Ok(report) => count(&mut tally.accepted, report.route),
-    }
+    count_answer(answer, tally);
     let wanted = read_answer(text);
     let answered = judge(case, b"answer", same_answer(answer, wanted));
-    let cleared = all_are(&work[..needed], 0.0) && all_are(&work[needed..], JUNK);
-    let cleared = judge(case, b"work", cleared);
+    let cleared = judge(case, b"work", is_cleared(&work, needed));
     // of a refused solve the outputs are untouched
     let (k, q) = if wanted.is_ok() {
         (3 * s.cameras, 3 * s.points)
