@@ -25,12 +25,6 @@ use Rattle.cholesky.proofs.Lower.{entry-same, entry_other, left-same, fewer, sto
 
 -- ---- the steps at a cell
 
-pub and-true : (a b r : Bool) → r ≡ a → r ≡ true → b ≡ (a && b)
-and-true a b r e t = rw (sym e ∙ t)
-
-pub and-false : (a b r : Bool) → r ≡ a → r ≡ false → r ≡ (a && b)
-and-false a b r e t = rw (sym e ∙ t, t)
-
 module _ (d : ℕ) where
   pub remainder-more : (A : List Float) (i j from k : ℕ) (v x y : Float) →
       Reduces d A i j from k v →

@@ -1,10 +1,8 @@
 // Cholesky's factor of a matrix of d rows and columns, in the matrix's place, and the solution by substitution, in the right side's place.
 #![tactic(auto)]
 
-ghost use Rattle.std.specs.Prelude.{◌≡◌, ◌&&◌, ◌+◌, ◌*◌, ◌<◌, ◌≤◌, min, length, set, take};
-ghost use Rattle.std.specs.Float.Ieee.{lt};
-ghost use Rattle.std.specs.Float.Ieee.Scale.{finite};
-ghost use Rattle.field.specs.Vec.{null, at, is_finite, minus, scale};
+ghost use Rattle.std.specs.Prelude.{◌≡◌, ◌+◌, ◌*◌, ◌<◌, ◌≤◌, min, length, set, take};
+ghost use Rattle.field.specs.Vec.{at, minus, scale};
 ghost use Rattle.field.specs.Buffer.{load, store, vector};
 ghost use Rattle.cholesky.specs.Cholesky.{ended, entry as entry_of, factor_entry, pivot as pivot_of, factor as factor_of};
 ghost use Rattle.cholesky.specs.Cholesky.{forward_vector, forward as forward_of, back_vector, back_row, back as back_of, Substituted};
@@ -12,7 +10,7 @@ ghost use Rattle.cholesky.specs.inner.Stages.{finite4 as finite_four, taken, pac
 ghost use Rattle.cholesky.specs.inner.Stages.{Packed, new_cell, with_cell, RowUpdated, PairUpdated, RowsUpdated, Updated};
 ghost use Rattle.cholesky.specs.inner.Stages.{RowFinished, RowsFinished, RowSolved, PanelSolved, Eliminated, ColumnsEnd, Finishes};
 
-use double::is_finite;
+use double::{all_finite, is_finite, is_positive};
 use field::{Vec3, get3, put3};
 use sqrt::sqrt;
 
@@ -26,6 +24,7 @@ pub enum Breakdown {
 }
 
 // Four neighbouring columns of a row: entries, or what is left of their remainders so far.
+// (An array of four would be read at fixed places too, since in `solve_four` each has a formula of its own: no line fewer.)
 #[derive(Clone, Copy)]
 struct Four {
     first: f64,
@@ -33,6 +32,23 @@ struct Four {
     third: f64,
     fourth: f64,
 }
+
+// The columns `from` to `from` + count - 1 of a matrix of `size` rows: packed has, of the rows of these numbers, the panel's four columns from `panel` on.
+#[derive(Drop)]
+struct Columns<'a> {
+    size: usize,
+    panel: usize,
+    from: usize,
+    count: usize,
+    packed: &'a [f64; 1024],
+    ghost beyond: { panel + 4 ≤ from },
+    ghost inside: { from + count ≤ size },
+    ghost fit: { count ≤ 256 },
+}
+
+// The matrix stays a (s below) and d: were its `&mut` in a struct, each function that writes would promise that `ghost_name` stays, in place of the length.
+// Nor is there a struct for the reads alone: a function that writes, as most do, would keep the length and make that struct anew for each read.
+// Nor does one hold p, j and rows, which go along in the update and the factor: p is written as a is, and `rows` falls.
 
 // a_ij, or l_ij once that has its place. The matrix stands at the front of a.
 fn entry(a: &[f64], d: usize, i: usize, j: usize) -> f64
@@ -76,20 +92,13 @@ fn factor_entry(a: &mut [f64], d: usize, i: usize, j: usize, from: usize) -> Res
     Err(Breakdown::Factor(i))
 }
 
-// Whether v has a root that a row can be divided by.
-fn is_pivot(v: f64) -> bool
-    ensures { result ≡ (finite v && lt null v) }
-{
-    is_finite(v) && 0.0 < v
-}
-
 // l_ii, the root of the remainder.
 fn pivot(a: &mut [f64], d: usize, i: usize, from: usize) -> Result<(), Breakdown>
     requires { (length a.old ≡ d * d) × (from ≤ i) × (i < d) }
     ensures { Continues d (pivot_of d i) a.old i i from result a.new }
 {
     let v = remainder(a, d, i, i, from);
-    if is_pivot(v) {
+    if is_positive(v) {
         put_entry(a, d, i, i, sqrt(v));
         return Ok(());
     }
@@ -207,9 +216,11 @@ fn panel(a: &mut [f64], d: usize, j: usize, rows: usize) -> usize
 
 // ---- the update: the panel's products, taken off what stands to the right of it
 
+// Two rows at once stand beside one for the speed: at d = 256 the factor took 0.44 ms so, and 0.48 row by row (docs/PERFORMANCE.md). One row is for the rest.
+
 // A row's four entries, at place t of each column.
-fn pack_row(p: &mut [f64], t: usize, x: Four)
-    requires { (length p.old ≡ 1024) × (t < 256) }
+fn pack_row(p: &mut [f64; 1024], t: usize, x: Four)
+    requires { t < 256 }
     ensures { p.new ≡ packed_with p.old t x }
 {
     p[t] = x.first;
@@ -219,8 +230,9 @@ fn pack_row(p: &mut [f64], t: usize, x: Four)
 }
 
 // The columns j to j + 3 of n rows, one column after the other in p, so that an update of a row runs along p.
-fn pack(a: &[f64], p: &mut [f64], d: usize, j: usize, from: usize, n: usize)
-    requires { (length a.now ≡ d * d) × (length p.old ≡ 1024) × (j + 3 < d) × (from + n ≤ d) × (n ≤ 256) }
+// (In four arrays of 256 they would lie the same way, but each place would be two indices in a list of lists, in place of one.)
+fn pack(a: &[f64], p: &mut [f64; 1024], d: usize, j: usize, from: usize, n: usize)
+    requires { (length a.now ≡ d * d) × (j + 3 < d) × (from + n ≤ d) × (n ≤ 256) }
     ensures { Packed d a.now j from n p.new }
 {
     for t in 0..n {
@@ -230,181 +242,150 @@ fn pack(a: &[f64], p: &mut [f64], d: usize, j: usize, from: usize, n: usize)
 }
 
 // Four products taken off v: x has the row's entries, p the column's.
-fn take_four(v: f64, x: Four, p: &[f64], t: usize) -> f64
-    requires { (length p.now ≡ 1024) × (t < 256) }
+fn take_four(v: f64, x: Four, p: &[f64; 1024], t: usize) -> f64
+    requires { t < 256 }
     ensures { result ≡ taken v x (packed p.now t) }
 {
     v - x.first * p[t] - x.second * p[256 + t] - x.third * p[512 + t] - x.fourth * p[768 + t]
 }
 
-// What an entry of row i is when four products are taken off it: x is the row's, p the packed columns'.
-fn new_cell(a: &[f64], p: &[f64], d: usize, i: usize, from: usize, t: usize, x: Four) -> f64
-    requires { (length a.now ≡ d * d) × (length p.now ≡ 1024) × (i < d) × (from + t < d) × (t < 256) }
-    ensures { result ≡ new_cell d a.now p.now i from t x }
+// What an entry of row i is when four products are taken off it: x is the row's.
+fn new_cell(a: &[f64], c: &Columns<'_>, i: usize, t: usize, x: Four) -> f64
+    requires { (length a.now ≡ c.now.size * c.now.size) × (i < c.now.size) × (t < c.now.count) }
+    ensures { result ≡ new_cell c.now.size a.now c.now.packed.now i c.now.from t x }
 {
-    take_four(entry(a, d, i, from + t), x, p, t)
+    take_four(entry(a, c.size, i, c.from + t), x, c.packed, t)
 }
 
-fn update_cell(a: &mut [f64], p: &[f64], d: usize, i: usize, from: usize, t: usize, x: Four)
-    requires { (length a.old ≡ d * d) × (length p.now ≡ 1024) × (i < d) × (from + t < d) × (t < 256) }
-    ensures { a.new ≡ with_cell d a.old p.now i from t x }
+fn update_cell(a: &mut [f64], c: &Columns<'_>, i: usize, t: usize, x: Four)
+    requires { (length a.old ≡ c.now.size * c.now.size) × (i < c.now.size) × (t < c.now.count) }
+    ensures { a.new ≡ with_cell c.now.size a.old c.now.packed.now i c.now.from t x }
 {
-    let u = new_cell(a, p, d, i, from, t, x);
-    put_entry(a, d, i, from + t, u);
+    let u = new_cell(a, c, i, t, x);
+    put_entry(a, c.size, i, c.from + t, u);
 }
 
-// n entries of row i.
-fn update_row(a: &mut [f64], p: &[f64], d: usize, i: usize, from: usize, n: usize, x: Four)
-    requires { (length a.old ≡ d * d) × (length p.now ≡ 1024) × (i < d) × (from + n ≤ d) × (n ≤ 256) }
-    ensures { RowUpdated d a.old a.new i from n x p.now }
+// w entries of row i.
+fn update_row(a: &mut [f64], c: &Columns<'_>, i: usize, w: usize, x: Four)
+    requires { (length a.old ≡ c.now.size * c.now.size) × (i < c.now.size) × (w ≤ c.now.count) }
+    ensures { RowUpdated c.now.size a.old a.new i c.now.from w x c.now.packed.now }
 {
-    for t in 0..n {
-        update_cell(a, p, d, i, from, t, x);
+    for t in 0..w {
+        update_cell(a, c, i, t, x);
     }
 }
 
 // Place t of the rows i and i + 1. Both are read before one is written.
-fn update_cells(
-    a: &mut [f64],
-    p: &[f64],
-    d: usize,
-    i: usize,
-    from: usize,
-    t: usize,
-    x: Four,
-    y: Four,
-)
-    requires { (length a.old ≡ d * d) × (length p.now ≡ 1024) × (i + 1 < d) × (from + t < d) × (t < 256) }
-    ensures { a.new ≡ with_cell d (with_cell d a.old p.now i from t x) p.now (i + 1) from t y }
+fn update_cells(a: &mut [f64], c: &Columns<'_>, i: usize, t: usize, x: Four, y: Four)
+    requires { (length a.old ≡ c.now.size * c.now.size) × (i + 1 < c.now.size) × (t < c.now.count) }
+    ensures { a.new ≡ with_cell c.now.size (with_cell c.now.size a.old c.now.packed.now i c.now.from t x)
+        c.now.packed.now (i + 1) c.now.from t y }
 {
-    let u = new_cell(a, p, d, i, from, t, x);
-    let v = new_cell(a, p, d, i + 1, from, t, y);
-    put_entry(a, d, i, from + t, u);
-    put_entry(a, d, i + 1, from + t, v);
+    let u = new_cell(a, c, i, t, x);
+    let v = new_cell(a, c, i + 1, t, y);
+    put_entry(a, c.size, i, c.from + t, u);
+    put_entry(a, c.size, i + 1, c.from + t, v);
 }
 
 // 2h entries of the rows i and i + 1: x and y are the rows'. The number is even so that two entries at a time leave no rest.
-fn update_pair(
-    a: &mut [f64],
-    p: &[f64],
-    d: usize,
-    i: usize,
-    from: usize,
-    h: usize,
-    x: Four,
-    y: Four,
-)
-    requires { (length a.old ≡ d * d) × (length p.now ≡ 1024) × (i + 1 < d) × (from + 2 * h ≤ d) × (2 * h ≤ 256) }
-    ensures { PairUpdated d a.old a.new i from (2 * h) (2 * h) x y p.now }
+fn update_pair(a: &mut [f64], c: &Columns<'_>, i: usize, h: usize, x: Four, y: Four)
+    requires { (length a.old ≡ c.now.size * c.now.size) × (i + 1 < c.now.size) × (2 * h ≤ c.now.count) }
+    ensures { PairUpdated c.now.size a.old a.new i c.now.from (2 * h) (2 * h) x y c.now.packed.now }
 {
     for t in 0..2 * h {
-        update_cells(a, p, d, i, from, t, x, y);
+        update_cells(a, c, i, t, x, y);
     }
 }
 
 // w entries of the two rows.
-fn update_common(
-    a: &mut [f64],
-    p: &[f64],
-    d: usize,
-    i: usize,
-    from: usize,
-    w: usize,
-    x: Four,
-    y: Four,
-)
-    requires { (length a.old ≡ d * d) × (length p.now ≡ 1024) × (i + 1 < d) × (from + w ≤ d) × (w ≤ 256) }
-    ensures { PairUpdated d a.old a.new i from w w x y p.now }
+fn update_common(a: &mut [f64], c: &Columns<'_>, i: usize, w: usize, x: Four, y: Four)
+    requires { (length a.old ≡ c.now.size * c.now.size) × (i + 1 < c.now.size) × (w ≤ c.now.count) }
+    ensures { PairUpdated c.now.size a.old a.new i c.now.from w w x y c.now.packed.now }
 {
-    update_pair(a, p, d, i, from, w / 2, x, y);
+    update_pair(a, c, i, w / 2, x, y);
     if w % 2 == 1 {
-        update_cells(a, p, d, i, from, w - 1, x, y);
+        update_cells(a, c, i, w - 1, x, y);
     }
 }
 
 // The lower triangle's row i, where the rows before it are done.
-fn update_one(a: &mut [f64], p: &[f64], d: usize, j: usize, from: usize, n: usize, i: usize)
-    requires a_len { (length a.old ≡ d * d) × (length p.now ≡ 1024) }
-    requires j_bound { (j + 4 ≤ from) × (from ≤ i) × (i < d) × (from + n ≤ d) × (n ≤ 256) }
-    ensures { RowsUpdated d a.old a.new j from n i (i + 1) p.now }
+fn update_one(a: &mut [f64], c: &Columns<'_>, i: usize)
+    requires { (length a.old ≡ c.now.size * c.now.size) × (c.now.from ≤ i) × (i < c.now.size) }
+    ensures { RowsUpdated c.now.size a.old a.new c.now.panel c.now.from c.now.count i (i + 1) c.now.packed.now }
 {
-    let x = get_four(a, d, i, j);
-    let w = n.min(i + 1 - from);
-    update_row(a, p, d, i, from, w, x);
+    let x = get_four(a, c.size, i, c.panel);
+    let w = c.count.min(i + 1 - c.from);
+    update_row(a, c, i, w, x);
 }
 
-// w entries of row i, and one more of row i + 1, its diagonal, unless n are all that it has.
-fn update_both(
-    a: &mut [f64],
-    p: &[f64],
-    d: usize,
-    i: usize,
-    from: usize,
-    n: usize,
-    w: usize,
-    x: Four,
-    y: Four,
-)
-    requires { (length a.old ≡ d * d) × (length p.now ≡ 1024) × (i + 1 < d) × (from + n ≤ d) × (w ≤ n) × (n ≤ 256) }
-    ensures { PairUpdated d a.old a.new i from w (min n (w + 1)) x y p.now }
+// w entries of row i, and one more of row i + 1, its diagonal, unless the columns have no more.
+fn update_both(a: &mut [f64], c: &Columns<'_>, i: usize, w: usize, x: Four, y: Four)
+    requires { (length a.old ≡ c.now.size * c.now.size) × (i + 1 < c.now.size) × (w ≤ c.now.count) }
+    ensures { PairUpdated c.now.size a.old a.new i c.now.from w (min c.now.count (w + 1)) x y c.now.packed.now }
 {
-    update_common(a, p, d, i, from, w, x, y);
-    if w < n {
-        update_cell(a, p, d, i + 1, from, w, y);
+    update_common(a, c, i, w, x, y);
+    if w < c.count {
+        update_cell(a, c, i + 1, w, y);
     }
 }
 
 // The rows i and i + 1.
-fn update_two(a: &mut [f64], p: &[f64], d: usize, j: usize, from: usize, n: usize, i: usize)
-    requires a_len { (length a.old ≡ d * d) × (length p.now ≡ 1024) }
-    requires j_bound { (j + 4 ≤ from) × (from ≤ i) × (i + 1 < d) × (from + n ≤ d) × (n ≤ 256) }
-    ensures { RowsUpdated d a.old a.new j from n i (i + 2) p.now }
+fn update_two(a: &mut [f64], c: &Columns<'_>, i: usize)
+    requires { (length a.old ≡ c.now.size * c.now.size) × (c.now.from ≤ i) × (i + 1 < c.now.size) }
+    ensures { RowsUpdated c.now.size a.old a.new c.now.panel c.now.from c.now.count i (i + 2) c.now.packed.now }
 {
-    let x = get_four(a, d, i, j);
-    let y = get_four(a, d, i + 1, j);
-    let w = n.min(i + 1 - from);
-    update_both(a, p, d, i, from, n, w, x, y);
+    let x = get_four(a, c.size, i, c.panel);
+    let y = get_four(a, c.size, i + 1, c.panel);
+    let w = c.count.min(i + 1 - c.from);
+    update_both(a, c, i, w, x, y);
 }
 
 // The lower triangle's rows from `from` on: the first, and then two at a time, which so have an even number of entries in common.
-fn update_rows(a: &mut [f64], p: &[f64], d: usize, j: usize, from: usize, n: usize, rows: usize)
-    requires a_len { (length a.old ≡ d * d) × (length p.now ≡ 1024) }
-    requires j_bound { (j + 4 ≤ from) × (from + n ≤ rows) × (rows ≤ d) × (n ≤ 256) }
-    ensures { RowsUpdated d a.old a.new j from n from rows p.now }
+fn update_rows(a: &mut [f64], c: &Columns<'_>, rows: usize)
+    requires { (length a.old ≡ c.now.size * c.now.size) × (c.now.from + c.now.count ≤ rows) × (rows ≤ c.now.size) }
+    ensures { RowsUpdated c.now.size a.old a.new c.now.panel c.now.from c.now.count c.now.from rows c.now.packed.now }
 {
+    let from = c.from;
     if rows <= from {
         return;
     }
-    update_one(a, p, d, j, from, n, from);
+    update_one(a, c, from);
     for i in (from + 1..rows - 1).step_by(2) {
-        update_two(a, p, d, j, from, n, i);
+        update_two(a, c, i);
     }
     if (rows - from) % 2 == 0 {
-        update_one(a, p, d, j, from, n, rows - 1);
+        update_one(a, c, rows - 1);
     }
 }
 
 // The columns `from` to `from` + n - 1.
 fn update_columns(
     a: &mut [f64],
-    p: &mut [f64],
+    p: &mut [f64; 1024],
     d: usize,
     j: usize,
     from: usize,
     n: usize,
     rows: usize,
 )
-    requires a_len { (length a.old ≡ d * d) × (length p.old ≡ 1024) }
+    requires a_len { length a.old ≡ d * d }
     requires j_bound { (j + 4 ≤ from) × (from + n ≤ rows) × (rows ≤ d) × (n ≤ 256) }
     ensures { Updated d a.old a.new j from (from + n) rows }
 {
     pack(a, p, d, j, from, n);
-    update_rows(a, p, d, j, from, n, rows);
+    let c = Columns {
+        size: d,
+        panel: j,
+        from,
+        count: n,
+        packed: p,
+    };
+    update_rows(a, &c, rows);
 }
 
 // All columns to the right of the panel, as many at a time as p holds.
-fn update(a: &mut [f64], p: &mut [f64], d: usize, j: usize, rows: usize)
-    requires { (length a.old ≡ d * d) × (length p.old ≡ 1024) × (j + 4 ≤ rows) × (rows ≤ d) }
+fn update(a: &mut [f64], p: &mut [f64; 1024], d: usize, j: usize, rows: usize)
+    requires { (length a.old ≡ d * d) × (j + 4 ≤ rows) × (rows ≤ d) }
     ensures { Updated d a.old a.new j (j + 4) rows rows }
 {
     for from in (j + 4..rows).step_by(256) {
@@ -416,8 +397,8 @@ fn update(a: &mut [f64], p: &mut [f64], d: usize, j: usize, rows: usize)
 // ---- the factor
 
 // The panel below the pivots of the columns j to j + 3, and its update: the first row that is not made, or `rows`.
-fn eliminate(a: &mut [f64], p: &mut [f64], d: usize, j: usize, rows: usize) -> usize
-    requires { (length a.old ≡ d * d) × (length p.old ≡ 1024) × (j + 4 ≤ rows) × (rows ≤ d) }
+fn eliminate(a: &mut [f64], p: &mut [f64; 1024], d: usize, j: usize, rows: usize) -> usize
+    requires { (length a.old ≡ d * d) × (j + 4 ≤ rows) × (rows ≤ d) }
     ensures { Eliminated d a.old a.new j rows result }
 {
     let left = panel(a, d, j, rows);
@@ -428,12 +409,12 @@ fn eliminate(a: &mut [f64], p: &mut [f64], d: usize, j: usize, rows: usize) -> u
 // The columns j to j + 3: the rows of their pivots, and then what is below. It gives the first row that is not made, or `rows`. p holds packed columns.
 fn four_columns(
     a: &mut [f64],
-    p: &mut [f64],
+    p: &mut [f64; 1024],
     d: usize,
     j: usize,
     rows: usize,
 ) -> Result<usize, Breakdown>
-    requires { (length a.old ≡ d * d) × (length p.old ≡ 1024) × (j + 4 ≤ rows) × (rows ≤ d) }
+    requires { (length a.old ≡ d * d) × (j + 4 ≤ rows) × (rows ≤ d) }
     ensures { ColumnsEnd d a.old a.new j rows result }
 {
     finish_rows(a, d, j, j + 4)?;
@@ -454,8 +435,8 @@ fn last_rows(a: &mut [f64], d: usize, j: usize, rows: usize) -> Result<(), Break
 
 // Four columns at a time.
 // The rows from `rows` on are left, where that row has an entry that is not finite: what stops the factor above it comes first.
-fn factor_columns(a: &mut [f64], p: &mut [f64], d: usize) -> Result<(), Breakdown>
-    requires { (length a.old ≡ d * d) × (length p.old ≡ 1024) }
+fn factor_columns(a: &mut [f64], p: &mut [f64; 1024], d: usize) -> Result<(), Breakdown>
+    requires { length a.old ≡ d * d }
     ensures { ended result a.new ≡ factor_of d a.old }
 {
     let mut rows = d;
@@ -484,7 +465,7 @@ fn take_vector(s: &[f64], d: usize, i: usize, j: usize, k: usize, v: Vec3) -> Ve
     requires { (length s.now ≡ d * d + 3 * d) × (i < d) × (j < d) × (k < d) }
     ensures { result ≡ minus v (scale (at (load vector s.now (d * d) d) k) (entry_of d (take (d * d) s.now) i j)) }
 {
-    v.sub(get3(s, d * d + 3 * k).mul(entry(s, d, i, j)))
+    v - get3(s, d * d + 3 * k) * entry(s, d, i, j)
 }
 
 // y_i of the forward substitution.
@@ -496,7 +477,7 @@ fn forward_vector(s: &[f64], d: usize, i: usize) -> Vec3
     for k in 0..i {
         v = take_vector(s, d, i, k, k, v);
     }
-    v.div(entry(s, d, i, i))
+    v / entry(s, d, i, i)
 }
 
 fn forward(s: &mut [f64], d: usize)
@@ -519,13 +500,7 @@ fn back_vector(s: &[f64], d: usize, i: usize) -> Vec3
     for k in i + 1..d {
         v = take_vector(s, d, k, i, k, v);
     }
-    v.div(entry(s, d, i, i))
-}
-
-fn finite3(v: Vec3) -> bool
-    ensures { result ≡ is_finite v }
-{
-    is_finite(v.x) && (is_finite(v.y) && is_finite(v.z))
+    v / entry(s, d, i, i)
 }
 
 fn back_row(s: &mut [f64], d: usize, i: usize) -> Result<(), Breakdown>
@@ -534,7 +509,7 @@ fn back_row(s: &mut [f64], d: usize, i: usize) -> Result<(), Breakdown>
         (back_row d (take (d * d) s.old) i (load vector s.old (d * d) d)) }
 {
     let v = back_vector(s, d, i);
-    if finite3(v) {
+    if all_finite(v.x, v.y, v.z) {
         put3(s, d * d + 3 * i, v);
         return Ok(());
     }

@@ -2,31 +2,31 @@
 use Rattle.network.specs.declared.Cause.TheVariants.{Cameras, Sizes}
 use Rattle.std.proofs.Common.{Err, Ok, Result}
 use Rattle.placement.specs.declared.Report.{Report}
-use Prim.Native.Nat.{ℕ, ◌+◌, ◌*◌, ◌≤◌, ◌<◌}
+use Prim.Native.Nat.{ℕ, ◌+◌, ◌*◌, ◌≤◌}
 use mathlib.Core.Path.{◌≡◌, refl, sym, ap, subst, ◌∙◌}
 use mathlib.Core.Bool.{true}
 use mathlib.Core.List.{List, [], ◌∷◌, ◌++◌}
 use native.Mathlib.Omega.{arith}
 use lib.ListN.{length}
+use lib.Dec.{ltb}
 use lib.Ieee.{Float}
-use borrow.Author.Tests.{lt-ltb, le-ltb}
+use borrow.Author.Tests.{le-ltb, ltb-false}
 use Rattle.network.specs.declared.Refusal.{Refusal}
 use Rattle.network.specs.declared.Shape.{Shape}
 use Rattle.network.specs.Refusals.{Verdict}
-use Rattle.network.specs.Network.{rows}
+use Rattle.network.specs.Network.{Content, content, rows}
 use Rattle.network.specs.Refusals.{test, verdict, count_tests, length_tests, end_tests}
 use Rattle.network.specs.inner.Sound.{ContentLengths}
-use Rattle.network.proofs.Verdicts.{verdict-one, refused-passed, halts-in, stage-passed, passed-test}
-use Rattle.layout.specs.Image.{Content, content}
+use Rattle.network.proofs.Verdicts.{verdict-one, refused-passed, halts-in, last, stage-passed, passed-test, test-passed}
 use Rattle.image.specs.Reading.{shape_at, content_from, content_of}
 use Rattle.image.specs.Tests.{content_fits, image_tests, row_tests, counts_tests, read_tests}
 use Rattle.image.specs.Calls.{counts_if, counts_of, after, lists, read_verdict, Reads}
 use Rattle.image.proofs.Domain.{length-wholes-from, length-doubles-from}
 use Rattle.image.proofs.Passing.{counted-sound}
-use Rattle.command.specs.declared.Printed.{Printed}
-use Rattle.command.specs.Command.{too_long, too_many, program_tests, refused_line, ImageSolved, Outcome, Prints}
-use Rattle.command.specs.inner.Steps.{CountsPassed, Small, ContentSound, ReadAs, RefusedAs}
-use Rattle.command.proofs.Printing.{prints-as}
+use Rattle.command.specs.declared.Reported.{Reported}
+use Rattle.command.specs.Command.{too_long, too_many, program_tests, refused_line, ImageSolved, Outcome}
+use Rattle.command.specs.inner.Steps.{CountsPassed, Small, ContentSound, RefusedAs, Steps}
+use Rattle.command.proofs.Printing.{steps-as}
 use Rattle.command.proofs.Passing.{fits, skipped, lengths-fit}
 
 -- ---- what the counts answered
@@ -52,12 +52,19 @@ outcome-refused l x e a t h = record {
 outcome-passed : (l : List ℕ) → verdict (program_tests l) ≡ Ok tt → (a : Result Report Refusal) (t : List ℕ) → ImageSolved (content_of l) a t → Outcome l a t
 outcome-passed l e a t h = record { refused = λ r q. absurd (refused-passed r (sym q ∙ e)); passed = λ q. h }
 
+-- what a step that refuses leaves to be printed
+pub refused-outcome : (l : List ℕ) (q : Refusal) → verdict (program_tests l) ≡ Err q → Outcome l (Err q) (refused_line q)
+refused-outcome l q e = outcome-refused l q e _ _ (record { answered = refl; printed = refl })
+
 -- ---- the length
 
-module _ (l : List ℕ) {r : Printed} {out out' : List ℕ} where
-  pub run_long : 16384 < length l → Prints (RefusedAs (record { cause = Sizes; place = 0 })) r out out' → Prints (Outcome l) r out out'
-  unfolding program_tests too_long test
-  run_long h = prints-as (outcome-refused l _ (sym (halts-in _ _ refl (verdict-one _ ∙ rw (lt-ltb 16384 (length l) h)))))
+module _ (l : List ℕ) {x : Verdict} (e : x ≡ test Sizes (ltb 16384 (length l))) where
+  pub long-refused : (q : Refusal) → x ≡ Err q → verdict (program_tests l) ≡ Err q
+  unfolding program_tests too_long
+  long-refused q f = sym (halts-in (test Sizes (ltb 16384 (length l)) ∷ []) _ (last e) f)
+
+  pub short : x ≡ Ok tt → length l ≤ 16384
+  short f = ltb-false _ _ (test-passed Sizes _ (sym e ∙ f))
 
 short-passed : (l : List ℕ) → length l ≤ 16384 → verdict (test Sizes (too_long l) ∷ []) ≡ Ok tt
 unfolding too_long
@@ -65,18 +72,18 @@ short-passed l h = verdict-one _ ∙ passed-test Sizes (le-ltb 16384 (length l) 
 
 -- ---- the counts
 
-module _ (l : List ℕ) (short : length l ≤ 16384) (x : Result Shape Refusal) (e : x ≡ counts_of l) where
-  pub run-uncounted : (q : Refusal) → x ≡ Err q → {r : Printed} {out out' : List ℕ} → Prints (RefusedAs q) r out out' → Prints (Outcome l) r out out'
+module _ (l : List ℕ) (k : length l ≤ 16384) {x : Result Shape Refusal} (e : x ≡ counts_of l) where
+  pub counts-refused : (q : Refusal) → x ≡ Err q → verdict (program_tests l) ≡ Err q
   unfolding program_tests counts_of
-  run-uncounted q f =
-      prints-as (outcome-refused l q (skipped _ _ (short-passed l short) ∙ sym (halts-in (counts_tests l) _ refl (counted-refused _ _ q (sym f ∙ e)))))
+  counts-refused q f =
+      skipped _ _ (short-passed l k) ∙ sym (halts-in (counts_tests l) _ refl (counted-refused _ _ q (sym f ∙ e)))
 
   pub counts-passed : (s : Shape) → x ≡ Ok s → CountsPassed l s
   unfolding counts_of
-  counts-passed s f = let p = counted-passed _ _ s (sym f ∙ e) in record { short = short; passed = p.0; shape = p.1 }
+  counts-passed s f = let p = counted-passed _ _ s (sym f ∙ e) in record { short = k; passed = p.0; shape = p.1 }
 
 -- so many points and rows fit into 16,384 bytes
-pub small : (l : List ℕ) (s : Shape) → CountsPassed l s → s.cameras ≤ 64 → Small s
+small : (l : List ℕ) (s : Shape) → CountsPassed l s → s.cameras ≤ 64 → Small s
 small l s k h =
     let i = (counted-sound l k.passed).0.size in
     let e : length l ≡ 52 + 48 * rows s + 24 * s.points = rw k.shape i in
@@ -105,9 +112,13 @@ module _ (l : List ℕ) (s : Shape) (k : CountsPassed l s) where
       skipped _ _ (short-passed l k.short) ∙ skipped (counts_tests l) _ k.passed
       ∙ ap (λ t. verdict ((test Cameras (too_many t) ∷ []) ++ row_tests (content_of l))) (sym k.shape)
 
-  pub run-many : 64 < s.cameras → {r : Printed} {out out' : List ℕ} → Prints (RefusedAs (record { cause = Cameras; place = 0 })) r out out' → Prints (Outcome l) r out out'
-  unfolding too_many test
-  run-many h = prints-as (outcome-refused l _ (counted-verdict ∙ sym (halts-in _ _ refl (verdict-one _ ∙ rw (lt-ltb 64 s.cameras h)))))
+  module _ {x : Verdict} (e : x ≡ test Cameras (ltb 64 s.cameras)) where
+    pub many-refused : (q : Refusal) → x ≡ Err q → verdict (program_tests l) ≡ Err q
+    unfolding too_many
+    many-refused q f = counted-verdict ∙ sym (halts-in (test Cameras (ltb 64 s.cameras) ∷ []) _ (last e) f)
+
+    pub few : x ≡ Ok tt → Small s
+    few f = small l s k (ltb-false _ _ (test-passed Cameras _ (sym e ∙ f)))
 
   few-passed : s.cameras ≤ 64 → verdict (test Cameras (too_many s) ∷ []) ≡ Ok tt
   unfolding too_many
@@ -149,28 +160,17 @@ module _ (l : List ℕ) (s : Shape) (k : CountsPassed l s) where
       rows-passed : verdict (row_tests (content s es' rs' ws' ss' ps')) ≡ Ok tt
       rows-passed = ap (λ (c : Content). verdict (row_tests c)) content-read ∙ sym rows-read ∙ passed
 
-      content-sound : ContentSound (content s es' rs' ws' ss' ps')
+      pub content-sound : ContentSound (content s es' rs' ws' ss' ps')
       unfolding row_tests
       content-sound =
           let p = stage-passed (end_tests s es') _ rows-passed in
           let fit : content_fits (content s es' rs' ws' ss' ps') ≡ true = ap content_fits content-read ∙ content-fit l in
-          record { counts = rw k.shape counts-run.1; fit = fit; ends = p.0; domain = p.1 }
+          record { small = h; counts = rw k.shape counts-run.1; fit = fit; ends = p.0; domain = p.1 }
 
-    pub read_as : ReadAs l x (content s es' rs' ws' ss' ps')
-    read_as = record {
-      refused = λ q f. rows_run ∙ sym rows-read ∙ counted-refused _ (shape_at 36 l) q (sym f ∙ reads.answer);
-      passed = λ t f. (rows_run ∙ sym rows-read ∙ passed t f, content-read t f, content-sound t f);
-    }
+    pub read-refused : (q : Refusal) → x ≡ Err q → verdict (program_tests l) ≡ Err q
+    read-refused q f = rows_run ∙ sym rows-read ∙ counted-refused _ (shape_at 36 l) q (sym f ∙ reads.answer)
 
--- ---- by the reader's answer
-
-module _ (l : List ℕ) (x : Result Shape Refusal) (s : Shape) (es : List ℕ) (rs ws ss ps : List Float) (R : ReadAs l x (content s es rs ws ss ps)) where
-  pub run-refused : (q : Refusal) → x ≡ Err q → {r : Printed} {out out' : List ℕ} → Prints (RefusedAs q) r out out' → Prints (Outcome l) r out out'
-  run-refused q f = prints-as (outcome-refused l q (R.refused q f))
-
-  module _ (t : Shape) (f : x ≡ Ok t) where
-    pub read-sound : ContentSound (content s es rs ws ss ps)
-    read-sound = (R.passed t f).2
-
-    pub run-solved : {r : Printed} {out out' : List ℕ} → Prints (ImageSolved (content s es rs ws ss ps)) r out out' → Prints (Outcome l) r out out'
-    run-solved = prints-as (λ a t' q. outcome-passed l (R.passed t f).0 a t' (subst (λ (c : Content). ImageSolved c a t') (R.passed t f).1 q))
+    module _ (t : Shape) (f : x ≡ Ok t) where
+      pub read-solved : (r : Result Reported Refusal) (out out' : List ℕ) → Steps (ImageSolved (content s es' rs' ws' ss' ps')) r out out' → Steps (Outcome l) r out out'
+      read-solved r out out' =
+          steps-as r out out' (λ a t' q. outcome-passed l (rows_run ∙ sym rows-read ∙ passed t f) a t' (subst (λ (d : Content). ImageSolved d a t') (content-read t f) q))

@@ -14,13 +14,12 @@ use Rattle.field.specs.Count.{lowest}
 use Rattle.field.proofs.Counting.{lowest-none}
 use Rattle.network.specs.declared.Shape.{Shape}
 use Rattle.network.specs.Refusals.{Verdict}
-use Rattle.network.specs.Network.{graph, rows}
+use Rattle.network.specs.Network.{content, graph, rows}
 use Rattle.network.specs.Refusals.{test, verdict, ends_fit, rays_fit, vectors_fit, content_fits, length_tests, end_tests, weight_tests, bad_weight, graph_row_tests}
 use Rattle.network.specs.inner.Sound.{ContentLengths, EndsSound}
 use Rattle.network.proofs.Verdicts.{verdict-one, passed-test-at, both-passed, passes-in}
 use Rattle.network.proofs.Sound.{counts-sound, content-fits, ends-sound, row-domain, domain-sound}
 use Rattle.lists.specs.PointLists.{lengths_fit, past_points, point_lists_tests, PointListsCall}
-use Rattle.layout.specs.Image.{content}
 use Rattle.command.specs.inner.Steps.{ContentSound, Listed, GraphPassed}
 
 pub fits : {fit : Bool} → fit ≡ true → verdict (length_tests fit) ≡ Ok tt
@@ -53,7 +52,7 @@ module _ (s : Shape) (es : List ℕ) (rs ws ss ps : List Float) (C : ContentSoun
 
   pub graph-passed : GraphPassed (graph s es ws)
   unfolding graph_row_tests
-  graph-passed = record { counts = C.counts; fit = ends-fit; rows = both-passed (end_tests s es) _ C.ends weights-passed }
+  graph-passed = record { small = C.small; counts = C.counts; fit = ends-fit; rows = both-passed (end_tests s es) _ C.ends weights-passed }
 
   -- ---- the point lists
 

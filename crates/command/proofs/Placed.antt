@@ -1,6 +1,6 @@
 -- A content that passes the reader's tests is solved: none of 1 to 8 refuses, and the answer is printed. Assumes nothing.
 use Rattle.network.specs.declared.Cause.TheVariants.{PointLists, Route}
-use Rattle.std.proofs.Common.{Ok, Result}
+use Rattle.std.proofs.Common.{Err, Ok, Result}
 use Rattle.network.specs.declared.Refusal.{Refusal}
 use Prim.Native.Nat.{ℕ, ◌-◌, ◌*◌, ◌≤◌}
 use mathlib.Core.Path.{◌≡◌, refl, sym, ap, ap₂, ◌∙◌}
@@ -15,7 +15,7 @@ use borrow.Author.Tests.{ltb-false, le-leb, eq-eqb}
 use Rattle.field.specs.Buffer.{load, vector}
 use Rattle.field.proofs.Buffers.{vector-lawful, length-flat, load-flat}
 use Rattle.network.specs.declared.Shape.{Shape}
-use Rattle.network.specs.Network.{graph, Network, network}
+use Rattle.network.specs.Network.{Content, content, graph, Network, network}
 use Rattle.network.specs.Refusals.{verdict, count_tests, length_tests, lists_fit, network_fits, end_tests, list_tests, link_tests, network_row_tests, bad_route, route_tests, dense_rows}
 use Rattle.network.proofs.Verdicts.{verdict-one, passed-test, both-passed}
 use Rattle.system.specs.Work.{work_length}
@@ -29,10 +29,9 @@ use Rattle.placement.specs.Solved.{answer_of, cameras_after, points_after, Solve
 use Rattle.lists.specs.inner.Sorted.{Rows}
 use Rattle.lists.proofs.Sorting.{offsets-table, listed-placed}
 use Rattle.lists.proofs.Holding.{sorted-holds}
-use Rattle.layout.specs.Image.{content}
-use Rattle.command.specs.declared.Printed.{Printed}
-use Rattle.command.specs.Command.{placed_lines, lines, network_of, ending, CamerasMeant, ImageSolved, Prints}
-use Rattle.command.specs.inner.Steps.{Small, ContentSound, Listed, BuffersSized, PartCount, text_of, AnsweredAs, SolvedAs}
+use Rattle.command.specs.declared.Reported.{Reported}
+use Rattle.command.specs.Command.{placed_lines, lines, network_of, ending, CamerasMeant, ImageSolved, Prints, refused_line}
+use Rattle.command.specs.inner.Steps.{Small, ContentSound, Listed, BuffersSized, PartCount, text_of, AnsweredAs, Steps, printed}
 use Rattle.command.proofs.Printing.{vectors-flat, prints-as}
 use Rattle.command.proofs.Passing.{fits, ends-passed}
 
@@ -102,7 +101,7 @@ module _ (s : Shape) (es : List ℕ) (rs ws ss ps : List Float) (C : ContentSoun
     buffers-fit : buffers_fit s (length ms) 3 48 (length a) (length cs) (length qs) ≡ true
     unfolding buffers_fit
     buffers-fit =
-        let h = work-enough s B.small in
+        let h = work-enough s C.small in
         let w = B.work in
         ap₂ ◌&&◌ (eq-eqb _ _ B.marks)
         (ap₂ ◌&&◌ (eq-eqb _ _ B.cameras) (ap₂ ◌&&◌ (eq-eqb _ _ B.points) (le-leb (work_length s 3 48) (length a) (omega arith))))
@@ -139,7 +138,12 @@ module _ (s : Shape) (es : List ℕ) (rs ws ss ps : List Float) (C : ContentSoun
         meaning = λ p q w. rw text (cameras-meant (ending net) net (distinct P.labels) cs cs' f (kept ∙ B.cameras) p (sym answers ∙ q) (call.meaning p q w));
       }
 
--- what was solved is printed
-pub solved-printed : (s : Shape) (es : List ℕ) (rs ws ss ps : List Float) (k : ℕ) (x : Result Report Refusal) (cs qs : List Float) {r : Printed} {out out' : List ℕ} →
-    SolvedAs (content s es rs ws ss ps) k x cs qs → Prints (AnsweredAs s k x cs qs) r out out' → Prints (ImageSolved (content s es rs ws ss ps)) r out out'
-solved-printed s es rs ws ss ps k x cs qs h = prints-as (λ b u q. rw (q.answered, q.printed) h.solved)
+-- what was solved is printed, or refused
+module _ (c : Content) (k : ℕ) (x : Result Report Refusal) (cs qs : List Float) (h : ImageSolved c x (text_of c.shape k x cs qs)) where
+  pub solved-printed : {p : Reported} {out out' : List ℕ} (s : Shape) (r : Report) → s ≡ c.shape → x ≡ Ok r → Prints (AnsweredAs s k (Ok r) cs qs) (printed p) out out' →
+      Steps (ImageSolved c) (Ok p) out out'
+  unfolding Steps
+  solved-printed s r e f = let g = rw f at h in prints-as (λ b u q. rw (q.answered, q.printed, e) g)
+
+  pub solve-refused : (r : Refusal) → x ≡ Err r → ImageSolved c (Err r) (refused_line r)
+  solve-refused r f = rw f at h

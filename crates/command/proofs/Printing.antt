@@ -15,8 +15,11 @@ use Rattle.network.specs.declared.Shape.{Shape}
 use Rattle.placement.specs.declared.Report.{Report}
 use Rattle.text.specs.Lent.{Put, room, PutIfRoom}
 use Rattle.command.specs.declared.Printed.{Printed}
+use Rattle.command.specs.declared.Reported.{Reported}
+use Rattle.std.specs.Result.{IsErrAnd}
+use Rattle.network.proofs.Verdicts.{given}
 use Rattle.command.specs.Command.{refused_line, placed_lines, Prints}
-use Rattle.command.specs.inner.Steps.{RefusedAs, AnsweredAs}
+use Rattle.command.specs.inner.Steps.{RefusedAs, AnsweredAs, Steps, printed}
 
 -- a buffer with the room for a text holds it
 put-fits : (v : ℕ) {out out' text : List ℕ} {r : ℕ} → length out ≡ 65536 → v ≤ 744 → PutIfRoom out out' v text r → Put out out' 0 text 65536 r
@@ -28,20 +31,12 @@ refusal-printed x out out' p e = record { text = refused_line x; put = put-fits 
 
 pub report-printed : (s : Shape) (k : ℕ) (p : Report) (cs ps : List Float) (out out' : List ℕ) {r : ℕ} →
     PutIfRoom out out' (length cs / 3 + length ps / 3) (placed_lines s k p (vectors_in cs) (vectors_in ps)) r → length out ≡ 65536 → (length cs ≤ 192) × (length ps ≤ 2040) →
-    Prints (AnsweredAs s k (Ok p) cs ps) (record { answer = Ok p; length = r }) out out'
+    Prints (AnsweredAs s k (Ok p) cs ps) (printed (record { report = p; length = r })) out out'
 report-printed s k p cs ps out out' q e h = record {
   text = placed_lines s k p (vectors_in cs) (vectors_in ps);
   put = put-fits (length cs / 3 + length ps / 3) e (omega arith) q;
   holds = record { answered = refl; printed = refl };
 }
-
--- an answer that was told apart
-module _ (s : Shape) (k : ℕ) (x : Result Report Refusal) (cs ps : List Float) {r : Printed} {out out' : List ℕ} where
-  pub refused-printed : (q : Refusal) → x ≡ Err q → Prints (RefusedAs q) r out out' → Prints (AnsweredAs s k x cs ps) r out out'
-  refused-printed q e h = rw e h
-
-  pub accepted-printed : (p : Report) → x ≡ Ok p → Prints (AnsweredAs s k (Ok p) cs ps) r out out' → Prints (AnsweredAs s k x cs ps) r out out'
-  accepted-printed p e h = rw e h
 
 -- the vectors of their numbers
 pub vectors-flat : (f : List Vec3) → vectors_in (flat vector f) ≡ f
@@ -53,3 +48,29 @@ vectors-flat f =
 -- what holds of the answer and the text may be said otherwise
 pub prints-as : {P Q : Result Report Refusal → List ℕ → Type 0} {r : Printed} {out out' : List ℕ} → ((a : Result Report Refusal) (t : List ℕ) → P a t → Q a t) → Prints P r out out' → Prints Q r out out'
 prints-as f p = record { text = p.text; put = p.put; holds = f _ _ p.holds }
+
+-- ---- a step of the run
+
+-- what it printed, or what is printed of its refusal
+module _ {P : Result Report Refusal → List ℕ → Type 0} {x : Result Reported Refusal} {out out' : List ℕ} (h : Steps P x out out') where
+  pub step-printed : (p : Reported) → x ≡ Ok p → Prints P (printed p) out out'
+  unfolding Steps
+  step-printed p e = rw e at h
+
+  pub step-refused : (q : Refusal) {r : Printed} {end : List ℕ} → x ≡ Err q → Prints (RefusedAs q) r out' end → Prints P r out end
+  unfolding Steps
+  step-refused q {r} {end} e p =
+      let k = rw e at h in
+      let i : Prints P r out' end = prints-as (λ a t i. rw (i.answered, i.printed) k.0) p in
+      rw k.1 at i
+
+-- a step that hands a refusal out
+pub handed : (P : Result Report Refusal → List ℕ → Type 0) (x : Result Reported Refusal) (q : Refusal) (out : List ℕ) → IsErrAnd x (λ e. e ≡ q) → P (Err q) (refused_line q) → Steps P x out out
+unfolding Steps
+handed P x q out g h = rw (given g) (h, refl)
+
+-- what holds of the answer and the text may be said otherwise
+pub steps-as : {P Q : Result Report Refusal → List ℕ → Type 0} (x : Result Reported Refusal) (out out' : List ℕ) → ((a : Result Report Refusal) (t : List ℕ) → P a t → Q a t) → Steps P x out out' → Steps Q x out out'
+unfolding Steps
+steps-as (Err q) out out' f h = (f _ _ h.0, h.1)
+steps-as (Ok p) out out' f h = prints-as f h

@@ -11,7 +11,7 @@ use Rattle.network.specs.Refusals.{Verdict}
 use Rattle.network.specs.Refusals.{verdict}
 use Rattle.graph.specs.Distinct.{distinct}
 use Rattle.graph.proofs.Unique.{labelled-unique}
-use Rattle.layout.specs.Image.{Content}
+use Rattle.network.specs.Network.{Content}
 use Rattle.command.specs.declared.Printed.{Printed}
 use Rattle.command.specs.Command.{graph_of, network_of, ending, lines, program_tests, ImageSolved, Outcome, OutcomeUnique, Prints, RunUnique}
 

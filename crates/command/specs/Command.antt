@@ -6,7 +6,7 @@ use Rattle.field.specs.declared.Vec3.{Vec3}
 use Rattle.network.specs.declared.Refusal.{Refusal}
 use Rattle.network.specs.Refusals.{Verdict}
 use Rattle.network.specs.declared.Shape.{Shape}
-use Rattle.network.specs.Network.{Graph, graph, Network, network}
+use Rattle.network.specs.Network.{Content, Graph, graph, Network, network}
 use Rattle.network.specs.Refusals.{number, test, verdict}
 use Rattle.graph.specs.Outcome.{Labelled}
 use Rattle.graph.specs.Distinct.{distinct}
@@ -17,7 +17,6 @@ use Rattle.placement.specs.declared.Report.{Report}
 use Rattle.placement.specs.Routes.{Placement, rejected, failing, placed, report, routed}
 use Rattle.placement.specs.Solved.{answer_of}
 use Rattle.lists.specs.PointLists.{offsets_of, listed_of}
-use Rattle.layout.specs.Image.{Content}
 use Rattle.image.specs.Reading.{shape_at, content_of}
 use Rattle.image.specs.Tests.{counts_tests, row_tests}
 use Rattle.text.specs.Text.{placed_text, refused_text}

@@ -1,9 +1,9 @@
 // What is printed.
 ghost use Rattle.std.specs.Prelude.{◌≤◌, length, Ok};
 ghost use Rattle.command.specs.Command.{Prints};
-ghost use Rattle.command.specs.inner.Steps.{RefusedAs, AnsweredAs};
+ghost use Rattle.command.specs.inner.Steps.{RefusedAs, AnsweredAs, printed};
 
-use crate::Printed;
+use crate::{Printed, Reported};
 use network::{Refusal, Shape};
 use placement::Report;
 use text::{put_placed, put_refused};
@@ -21,40 +21,18 @@ pub fn refuse(refusal: Refusal, text: &mut [u8; 65536]) -> Printed
 }
 
 // A report, with the cameras and points.
-fn accept(
+pub(crate) fn print(
     s: Shape,
     parts: usize,
     report: Report,
     cameras: &[f64],
     points: &[f64],
     text: &mut [u8; 65536],
-) -> Printed
+) -> Reported
     requires { (length cameras.now ≤ 192) × (length points.now ≤ 2040) }
-    ensures { Prints (AnsweredAs s parts (Ok report) cameras.now points.now) result
+    ensures { Prints (AnsweredAs s parts (Ok report) cameras.now points.now) (printed result)
         text.old text.new }
 {
     let length = put_placed(s, parts, report, cameras, points, text);
-    Printed {
-        answer: Ok(report),
-        length,
-    }
-}
-
-// An answer.
-pub fn print(
-    s: Shape,
-    parts: usize,
-    answer: Result<Report, Refusal>,
-    cameras: &[f64],
-    points: &[f64],
-    text: &mut [u8; 65536],
-) -> Printed
-    requires { (length cameras.now ≤ 192) × (length points.now ≤ 2040) }
-    ensures { Prints (AnsweredAs s parts answer cameras.now points.now) result
-        text.old text.new }
-{
-    match answer {
-        Err(r) => refuse(r, text),
-        Ok(report) => accept(s, parts, report, cameras, points, text),
-    }
+    Reported { report, length }
 }

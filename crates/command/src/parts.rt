@@ -1,17 +1,18 @@
 // The number of parts.
-ghost use Rattle.network.specs.Network.{graph};
-ghost use Rattle.command.specs.inner.Steps.{Small, GraphPassed, PartCount};
+ghost use Rattle.network.specs.Network.{graph_of};
+ghost use Rattle.command.specs.inner.Steps.{GraphPassed, PartCount};
 
-use network::Shape;
+use network::lent::Network;
 
 // Has the nodes of 64 cameras and 680 points.
-pub fn count_parts(s: Shape, ends: &[usize], weights: &[f64]) -> usize
-    requires graph_passed { GraphPassed (graph s ends.now weights.now) }
-    requires small { Small s }
-    ensures { PartCount (graph s ends.now weights.now) result }
+pub fn count_parts(net: &Network<'_>) -> usize
+    requires { GraphPassed (graph_of net.now) }
+    ensures { PartCount (graph_of net.now) result }
 {
     let mut nodes = [0usize; 744];
     let mut labels = [0usize; 64];
+    let s = net.shape;
     let n = s.cameras;
-    graph::parts(s, ends, weights, &mut nodes, &mut labels[..n]).unwrap_or(0)
+    let counted = graph::parts(s, net.ends, net.weights, &mut nodes, &mut labels[..n]);
+    counted.unwrap_or(0)
 }

@@ -1,39 +1,16 @@
 // The image: its length, its counts, its network.
-ghost use Rattle.std.specs.Prelude.{◌≤◌, length};
 ghost use Rattle.network.specs.inner.Sound.{ContentLengths};
-ghost use Rattle.layout.specs.Image.{content};
-ghost use Rattle.command.specs.Command.{Outcome, Prints};
-ghost use Rattle.command.specs.inner.Steps.{CountsPassed, Small, ReadAs};
+ghost use Rattle.command.specs.Command.{Outcome};
+ghost use Rattle.command.specs.inner.Steps.{CountsTaken, Steps};
 
-use crate::Printed;
+use crate::Reported;
 use crate::listing::place_read;
-use crate::output::refuse;
 use image::{counts, read};
+use network::answers::refused_if;
+use network::lent::Content;
 use network::{Cause, Refusal, Shape};
 
-// Refuses, or solves what was read.
-fn run_read(
-    bytes: &[u8],
-    counted: Result<Shape, Refusal>,
-    s: Shape,
-    ends: &[usize],
-    rays: &[f64],
-    weights: &[f64],
-    scales: &[f64],
-    points: &[f64],
-    text: &mut [u8; 65536],
-) -> Printed
-    requires small { Small s }
-    requires read_as { ReadAs bytes.now counted (content s ends.now rays.now weights.now scales.now points.now) }
-    ensures { Prints (Outcome bytes.now) result text.old text.new }
-{
-    match counted {
-        Err(r) => refuse(r, text),
-        Ok(_) => place_read(s, ends, rays, weights, scales, points, text),
-    }
-}
-
-// Reads the network, with buffers of the lengths that the counts say.
+// Reads the network, with buffers of the lengths that the counts say. The five are lent one by one, as `image::read` takes them.
 fn run_sized(
     bytes: &[u8],
     s: Shape,
@@ -43,21 +20,27 @@ fn run_sized(
     scales: &mut [f64],
     points: &mut [f64],
     text: &mut [u8; 65536],
-) -> Printed
-    requires counts_passed { CountsPassed bytes.now s }
-    requires small { Small s }
+) -> Result<Reported, Refusal>
+    requires counts_taken { CountsTaken bytes.now s }
     requires content_lengths { ContentLengths s ends.old rays.old weights.old scales.old points.old }
-    ensures { Prints (Outcome bytes.now) result text.old text.new }
+    ensures { Steps (Outcome bytes.now) result text.old text.new }
 {
-    let counted = read(bytes, ends, rays, weights, scales, points);
-    run_read(bytes, counted, s, ends, rays, weights, scales, points, text)
+    read(bytes, ends, rays, weights, scales, points)?;
+    let c = Content {
+        shape: s,
+        ends,
+        rays,
+        weights,
+        scales,
+        points,
+    };
+    place_read(&c, text)
 }
 
 // Has the buffers: 16,384 bytes have room for 340 rows, or for 680 points.
-fn run_small(bytes: &[u8], s: Shape, text: &mut [u8; 65536]) -> Printed
-    requires counts_passed { CountsPassed bytes.now s }
-    requires small { Small s }
-    ensures { Prints (Outcome bytes.now) result text.old text.new }
+fn run_small(bytes: &[u8], s: Shape, text: &mut [u8; 65536]) -> Result<Reported, Refusal>
+    requires { CountsTaken bytes.now s }
+    ensures { Steps (Outcome bytes.now) result text.old text.new }
 {
     let mut ends = [0usize; 680];
     let mut rays = [0.0f64; 1020];
@@ -80,31 +63,12 @@ fn run_small(bytes: &[u8], s: Shape, text: &mut [u8; 65536]) -> Printed
     )
 }
 
-// Refuses more than 64 cameras.
-fn run_counted(bytes: &[u8], s: Shape, text: &mut [u8; 65536]) -> Printed
-    requires { CountsPassed bytes.now s }
-    ensures { Prints (Outcome bytes.now) result text.old text.new }
+// Makes the tests in their order. At most 16,384 bytes and 64 cameras are taken.
+pub(crate) fn run_image(bytes: &[u8], text: &mut [u8; 65536]) -> Result<Reported, Refusal>
+    ensures { Steps (Outcome bytes.now) result text.old text.new }
 {
-    if 64 < s.cameras {
-        return refuse(
-            Refusal {
-                cause: Cause::Cameras,
-                place: 0,
-            },
-            text,
-        );
-    }
+    refused_if(Cause::Sizes, 16384 < bytes.len())?;
+    let s = counts(bytes)?;
+    refused_if(Cause::Cameras, 64 < s.cameras)?;
     run_small(bytes, s, text)
-}
-
-// Reads the counts.
-pub fn run_short(bytes: &[u8], text: &mut [u8; 65536]) -> Printed
-    requires { length bytes.now ≤ 16384 }
-    ensures { Prints (Outcome bytes.now) result text.old text.new }
-{
-    let counted = counts(bytes);
-    match counted {
-        Err(r) => refuse(r, text),
-        Ok(s) => run_counted(bytes, s, text),
-    }
 }

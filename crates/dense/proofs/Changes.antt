@@ -1,11 +1,11 @@
 -- Changes of the matrix in its segment of the work buffer, one after another. Assumes nothing.
 use mathlib.Core.Path.{◌≡◌, sym, ap, ◌∙◌}
 use mathlib.Core.Logic.{inl, inr}
-use mathlib.Core.List.{List, ◌++◌, append-nil}
+use mathlib.Core.List.{List}
 use Prim.Native.Nat.{ℕ, ◌+◌, ◌-◌, ◌*◌, ◌≤◌, ◌<◌}
 use native.Mathlib.Numerals.{add-one}
 use native.Mathlib.Omega.{arith}
-use lib.ListN.{length, drop, replicate, length-replicate, drop_of_length-le}
+use lib.ListN.{length, drop, replicate, length-replicate}
 use lib.Seq.{drop-drop}
 use lib.Ieee.{Float, nan}
 use borrow.Rule.Slice.PartMut.{put_mid, mid_of}
@@ -44,10 +44,18 @@ pub record AgreeOn (s : Shape) (w w' : Weights) : Type 0 where
   pub row : (r : ℕ) → r < rows s → w.row r ≡ w'.row r
   pub point : (p : ℕ) → p < s.points → w.point p ≡ w'.point p
 
--- F keeps the size of a matrix of d rows, and reads no other weights
+-- F keeps the size of a matrix of d rows
+abbrev pub SizeKept : ℕ → MatrixChange → Type 0
+SizeKept d F = (w : Weights) (ts : List CameraTerm) (A : List Float) → length A ≡ d * d → length (F w ts A) ≡ d * d
+
+-- and reads no other weights
 pub record LocalChange (s : Shape) (d : ℕ) (F : MatrixChange) : Type 0 where
-  pub sized : (w : Weights) (ts : List CameraTerm) (A : List Float) → length A ≡ d * d → length (F w ts A) ≡ d * d
+  pub sized : SizeKept d F
   pub same : (w w' : Weights) (ts : List CameraTerm) (A : List Float) → AgreeOn s w w' → F w ts A ≡ F w' ts A
+
+pub sized-times : (d : ℕ) (f : ℕ → MatrixChange) (k : ℕ) → ((i : ℕ) → SizeKept d (f i)) → SizeKept d (times f k)
+unfolding times
+sized-times d f k h w ts A e = upto-invariant (λ i t. length t ≡ d * d) (λ i. f i w ts) k A (λ i t l q. h i w ts t q) e
 
 pub local-times : (s : Shape) (d : ℕ) (f : ℕ → MatrixChange) (k : ℕ) → ((i : ℕ) → i < k → LocalChange s d (f i)) → LocalChange s d (times f k)
 unfolding times
@@ -81,12 +89,12 @@ module _ (s : Shape) (d : ℕ) (l : List Float) (room : work_end s d ≤ length 
         rw (terms-after, q, g) (ap (λ (x : List Float). write x p (G (weights_in s l) ts A)) e ∙ write-write l p A (G (weights_in s l) ts A) (omega arith))
 
   -- one change after another
-  pub changed-both : (F G H : MatrixChange) (m w : List Float) → LocalChange s d F → LocalChange s d G → m ≡ matrix_changed s d F l → w ≡ matrix_changed s d G m →
+  pub changed-both : (F G H : MatrixChange) (m w : List Float) → SizeKept d F → LocalChange s d G → m ≡ matrix_changed s d F l → w ≡ matrix_changed s d G m →
       ((v : Weights) (ts : List CameraTerm) (A : List Float) → H v ts A ≡ G v ts (F v ts A)) → w ≡ matrix_changed s d H l
   unfolding matrix_changed
   changed-both F G H m w hF hG e f k =
       let A = part l (matrix_at s) (d * d) in
-      let z : length (F (weights_in s l) (load term l 0 s.cameras) A) ≡ d * d = hF.sized _ _ A (length_part l (matrix_at s) (d * d) (omega arith)) in
+      let z : length (F (weights_in s l) (load term l 0 s.cameras) A) ≡ d * d = hF _ _ A (length_part l (matrix_at s) (d * d) (omega arith)) in
       f ∙ changed-write _ m e G hG z ∙ ap (write l (matrix_at s)) (sym (k _ _ A))
 
   -- a loop of changes: where it begins, and one more
@@ -94,19 +102,17 @@ module _ (s : Shape) (d : ℕ) (l : List Float) (room : work_end s d ≤ length 
   unfolding matrix_changed times
   changes-none f = rw upto_zero (sym (write-part l (matrix_at s) (d * d)))
 
-  pub changes-more : (f : ℕ → MatrixChange) (k : ℕ) (m w : List Float) → ((i : ℕ) → i ≤ k → LocalChange s d (f i)) →
+  pub changes-more : (f : ℕ → MatrixChange) (k : ℕ) (m w : List Float) → ((i : ℕ) → SizeKept d (f i)) → LocalChange s d (f k) →
       m ≡ matrix_changed s d (times f k) l → w ≡ matrix_changed s d (f k) m → w ≡ matrix_changed s d (times f (k + 1)) l
   unfolding times
-  changes-more f k m w h e g =
-      changed-both (times f k) (f k) (times f (k + 1)) m w
-      (local-times s d f k (λ i b. h i (omega arith))) (h k (omega arith)) e g (λ v ts A. rw (add-one, upto-suc))
+  changes-more f k m w z h e g = changed-both (times f k) (f k) (times f (k + 1)) m w (sized-times d f k z) h e g (λ v ts A. rw (add-one, upto-suc))
 
 -- the matrix cleared
 pub cleared : (s : Shape) (d p e : ℕ) (l ys : List Float) → work_end s d ≤ length l → p ≡ matrix_at s → e ≡ dense_right_at s d →
-    ys ≡ replicate (d * d) null ++ drop (d * d) (mid_of p (e - p) l) → put_mid p (e - p) l ys ≡ write l (matrix_at s) (replicate (d * d) null)
+    ys ≡ replicate (length (mid_of p (e - p) l)) null → put_mid p (e - p) l ys ≡ write l (matrix_at s) (replicate (d * d) null)
 cleared s d p e l ys room ep ee g =
     let n = d * d in
     let h : e ≡ p + n = omega arith in
     let q : length (mid_of p (e - p) l) ≡ n = lent_length l p e n h (omega arith) in
-    let r : ys ≡ replicate n null = g ∙ ap (λ (t : List Float). replicate n null ++ t) (drop_of_length-le (mid_of p (e - p) l) {i = n} (omega arith)) ∙ append-nil (replicate n null) in
+    let r : ys ≡ replicate n null = rw (← q) g in
     lent_back l ys p e n h (omega arith) (ap length r ∙ length-replicate n null) ∙ rw (r, ep)

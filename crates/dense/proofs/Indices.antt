@@ -1,17 +1,17 @@
--- Laws of rows and of a matrix's places. Assumes nothing.
+-- Laws of rows. Assumes nothing.
 use mathlib.Core.Path.{◌≡◌, refl, subst, ◌∙◌}
 use mathlib.Core.Logic.{◌⊎◌, inl, inr, ⊎_elim}
 use mathlib.Core.Bool.{Bool, true, false, cond}
-use Prim.Native.Nat.{ℕ, suc, ◌+◌, ◌-◌, ◌*◌, ◌≤◌, ◌<◌}
-use native.Mathlib.Nat.{max-eq_left, max-eq_right, min-eq_left, min-eq_right}
+use Prim.Native.Nat.{ℕ, suc, ◌+◌, ◌-◌, ◌≤◌, ◌<◌}
 use native.Mathlib.Omega.{arith}
 use borrow.Author.Tests.{eq-eqb, ne_eqb, lt-ltb, le-ltb, ltb-true, ltb-false}
 use lib.Dec.{ltb}
 use Rattle.std.proofs.Common.{Option, Some, None}
+use Rattle.network.specs.declared.Shape.{Shape}
 use Rattle.dense.specs.declared.rows.DenseRow.{DenseRow}
+use Rattle.dense.specs.declared.rows.DenseSystem.{DenseSystem}
 use Rattle.dense.specs.Rows.{dense_row, camera_of}
-use Rattle.dense.specs.Matrix.{lower_place}
-use Rattle.dense.specs.inner.Held.{RowWithin}
+use Rattle.dense.specs.inner.Held.{RowWithin, SystemRoom}
 
 -- ---- rows
 
@@ -48,6 +48,18 @@ within-row d n c a r e z h k = rw e (row_within d c a (omega arith) (omega arith
 
 pub within-dense : (d : ℕ) (r : Option DenseRow) (p : DenseRow) → RowWithin d r → r ≡ Some p → p.0 < d
 within-dense d r p w e = subst (RowWithin d) e w
+
+pub row-inside : (d n c a : ℕ) (r : Option DenseRow) (p : DenseRow) → r ≡ dense_row c a → r ≡ Some p → d + 1 ≡ n → c < n → a < n → p.0 < d
+row-inside d n c a r p e f z h k = within-dense d r p (within-row d n c a r e z h k) f
+
+-- ---- a system of a shape that was read elsewhere
+
+pub own-room : (s : Shape) (m : DenseSystem) (n : ℕ) → SystemRoom s m n → SystemRoom m.shape m n
+own-room s m n h =
+    record { shape = refl; sound = rw h.shape h.sound; anchor = rw h.shape h.anchor; dimension = h.dimension ∙ rw h.shape refl; room = rw h.shape h.room }
+
+pub own-camera : (s : Shape) (m : DenseSystem) (n i : ℕ) → SystemRoom s m n → i < s.cameras → i < m.shape.cameras
+own-camera s m n i h b = rw h.shape b
 
 -- how many rows the cameras below c have
 unfoldable pub rows_below : ℕ → ℕ → ℕ
@@ -102,12 +114,3 @@ count-anchor a c e = subst (Count a c) e (count a c)
 
 pub count-dense : (a c : ℕ) (p : DenseRow) → dense_row c a ≡ Some p → Next a c p
 count-dense a c p e = subst (Count a c) e (count a c)
-
--- ---- the lower triangle
-
-module _ (d : ℕ) (p q : DenseRow) (i j r : ℕ) (e : i ≡ p.0) (f : j ≡ q.0) where
-  pub lower-right : i < j → r ≡ j * d + i → r ≡ lower_place d p q
-  lower-right h g = g ∙ rw (← e, ← f, max-eq_right {n = i} {m = j} (omega arith), min-eq_left {n = i} {m = j} (omega arith))
-
-  pub lower-left : j ≤ i → r ≡ i * d + j → r ≡ lower_place d p q
-  lower-left h g = g ∙ rw (← e, ← f, max-eq_left {n = i} {m = j} h, min-eq_right {n = j} {m = i} h)

@@ -20,31 +20,30 @@ use Rattle.system.specs.Work.{term, term_place, positions_at, dense_right_at}
 use Rattle.std.proofs.Common.{Option, Some, None}
 use Rattle.dense.specs.declared.rows.DenseRow.{DenseRow}
 use Rattle.dense.specs.Rows.{dense_row, camera_of}
-use Rattle.dense.specs.Dense.{right_of, row_vector, camera_vector}
-use Rattle.dense.specs.inner.Held.{RowWithin, put_row}
-use Rattle.dense.proofs.Indices.{rows_below, rows_none, rows_all, count-anchor, count-dense, within-dense}
+use Rattle.dense.specs.Dense.{right_of, camera_vector}
+use Rattle.dense.specs.inner.Held.{put_row}
+use Rattle.dense.proofs.Indices.{rows_below, rows_none, rows_all, count-anchor, count-dense, row-inside}
 use Rattle.dense.proofs.Steps.{term-read}
 
--- ---- a row's vector
+-- ---- a camera's vector
 
-pub put-anchor : (l : List Float) (p : ℕ) (r : Option DenseRow) (v : Vec3) → r ≡ None → l ≡ put_row p r v l
-unfolding put_row
-put-anchor l p r v e = rw e
+module _ (c a : ℕ) (r : Option DenseRow) (v : Vec3) (er : r ≡ dense_row c a) where
+  pub put-anchor : (l : List Float) (p : ℕ) → r ≡ None → l ≡ put_row p (dense_row c a) v l
+  unfolding put_row
+  put-anchor l p e = rw (← er, e)
 
-pub put-dense : (l w : List Float) (p k : ℕ) (r : Option DenseRow) (q : DenseRow) (v : Vec3) → r ≡ Some q → k ≡ p + 3 * q.0 → w ≡ put vector l k v → w ≡ put_row p r v l
-unfolding put_row
-put-dense l w p k r q v e f g = rw (e, ← f) g
+  pub put-dense : (l w : List Float) (p k : ℕ) (q : DenseRow) → r ≡ Some q → k ≡ p + 3 * q.0 → w ≡ put vector l k v → w ≡ put_row p (dense_row c a) v l
+  unfolding put_row
+  put-dense l w p k q e f g = rw (← er, e, ← f) g
 
-pub vector-dense : (l : List Float) (p d k : ℕ) (r : Option DenseRow) (q : DenseRow) (v : Vec3) → r ≡ Some q → RowWithin d r → k ≡ p + 3 * q.0 →
-    v ≡ get vector l k → v ≡ row_vector (load vector l p d) r
-vector-dense l p d k r q v e h f g = rw e (g ∙ rw f (sym (at_load vector l p d q.0 origin (within-dense d r q h e))))
+  pub vector-anchor : (x : List Vec3) → r ≡ None → v ≡ origin → v ≡ camera_vector a x c
+  vector-anchor x e g = rw (← er, e) g
+
+  pub vector-dense : (l : List Float) (p d n k : ℕ) (q : DenseRow) → r ≡ Some q → d + 1 ≡ n → c < n → a < n → k ≡ p + 3 * q.0 →
+      v ≡ get vector l k → v ≡ camera_vector a (load vector l p d) c
+  vector-dense l p d n k q e z h b f g = rw (← er, e) (g ∙ rw f (sym (at_load vector l p d q.0 origin (row-inside d n c a r q er e z h b))))
 
 -- ---- the right side
-
-pub right-put : (s : Shape) (a d at c : ℕ) (l w : List Float) (t : CameraTerm) (row : Option DenseRow) → c < s.cameras → at ≡ dense_right_at s d →
-    t ≡ get term l (term_place c) → row ≡ dense_row c a → w ≡ put_row at row t.right l →
-    w ≡ put_row (dense_right_at s d) (dense_row c a) (term_at (load term l 0 s.cameras) c).right l
-right-put s a d at c l w t row h ea et er e = let q = term-read l s.cameras c t h et in rw (q, ← ea, ← er) e
 
 module _ (s : Shape) (a d : ℕ) (l : List Float) where
   -- the right sides of the cameras below c
@@ -54,10 +53,10 @@ module _ (s : Shape) (a d : ℕ) (l : List Float) where
   pub right-none : l ≡ filled 0
   right-none = rw rows_none (store-none vector l (dense_right_at s d) _)
 
-  pub right-more : (c : ℕ) (w u : List Float) → c < s.cameras → w ≡ filled c →
-      u ≡ put_row (dense_right_at s d) (dense_row c a) (term_at (load term w 0 s.cameras) c).right w → u ≡ filled (c + 1)
+  pub right-more : (c : ℕ) (w u : List Float) (t : CameraTerm) → c < s.cameras → w ≡ filled c → t ≡ get term w (term_place c) →
+      u ≡ put_row (dense_right_at s d) (dense_row c a) t.right w → u ≡ filled (c + 1)
   unfolding put_row
-  right-more c w u h ew eu = go (dense_row c a) refl eu
+  right-more c w u m h ew em eu = let q = term-read w s.cameras c m h em in go (dense_row c a) refl (rw q eu)
     where
       go : (r : Option DenseRow) → dense_row c a ≡ r → u ≡ put_row (dense_right_at s d) r (term_at (load term w 0 s.cameras) c).right w → u ≡ filled (c + 1)
       go None e f = rw (count-anchor a c e) (f ∙ ew)
@@ -78,22 +77,17 @@ module _ (s : Shape) (a d : ℕ) (l : List Float) where
 
 -- ---- the cameras
 
-pub camera-put : (s : Shape) (a d at into c : ℕ) (l w : List Float) (v : Vec3) (row : Option DenseRow) → at ≡ dense_right_at s d → into ≡ positions_at s → row ≡ dense_row c a →
-    v ≡ row_vector (load vector l at d) row → w ≡ put vector l (into + 3 * c) v →
-    w ≡ put vector l (positions_at s + 3 * c) (camera_vector a (load vector l (dense_right_at s d) d) c)
-camera-put s a d at into c l w v row ea ei er ev e = rw (← ea, ← ei, ← er, ← ev) e
-
 module _ (s : Shape) (a d : ℕ) (l : List Float) where
   pub spread_none : l ≡ store vector l (positions_at s) (field 0 (camera_vector a (load vector l (dense_right_at s d) d)))
   spread_none = store-none vector l (positions_at s) _
 
-  pub spread-more : (c : ℕ) (w u : List Float) → c < s.cameras →
+  pub spread-more : (c at : ℕ) (w u : List Float) (v : Vec3) → c < s.cameras → at ≡ positions_at s →
       w ≡ store vector l (positions_at s) (field c (camera_vector a (load vector l (dense_right_at s d) d))) →
-      u ≡ put vector w (positions_at s + 3 * c) (camera_vector a (load vector w (dense_right_at s d) d) c) →
+      v ≡ camera_vector a (load vector w (dense_right_at s d) d) c → u ≡ put vector w (at + 3 * c) v →
       u ≡ store vector l (positions_at s) (field (c + 1) (camera_vector a (load vector l (dense_right_at s d) d)))
-  spread-more c w u h ew eu =
+  spread-more c at w u v h ea ew ev eu =
       let g = camera_vector a (load vector l (dense_right_at s d) d) in
       let e : length (field c g) ≡ c = length-field c g in
       let x : load vector w (dense_right_at s d) d ≡ load vector l (dense_right_at s d) d =
       rw ew (load-store-apart vector vector vector-lawful l (positions_at s) (field c g) (dense_right_at s d) d (inl (omega arith))) in
-      eu ∙ rw add-one (map_more vector vector-lawful l (positions_at s) c g w _ ew (ap (λ (y : List Vec3). camera_vector a y c) x))
+      rw (ea, ev) at eu ∙ rw add-one (map_more vector vector-lawful l (positions_at s) c g w _ ew (ap (λ (y : List Vec3). camera_vector a y c) x))

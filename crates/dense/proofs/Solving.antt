@@ -4,17 +4,18 @@ use mathlib.Core.Logic.{◌⊎◌, inl, inr, ⊎_elim}
 use mathlib.Core.List.{List}
 use Prim.Native.Nat.{ℕ, ◌+◌, ◌-◌, ◌*◌, ◌≤◌}
 use native.Mathlib.Omega.{arith}
-use lib.ListN.{length, take}
+use lib.ListN.{length, take, replicate}
 use lib.Seq.{take-take}
 use lib.Ieee.{Float}
 use borrow.Rule.Slice.PartMut.{put_mid, mid_of}
 use Rattle.field.specs.declared.Vec3.{Vec3}
+use Rattle.field.specs.Vec.{null}
 use Rattle.field.specs.Count.{field}
 use Rattle.field.specs.Buffer.{Cell, part, write, load, store, number, vector}
 use Rattle.field.proofs.Counting.{length-field}
 use Rattle.field.proofs.Buffers.{Lawful, length-store, part_same, load_part, load_store, load-store-apart, drop-store, store-number, number-lawful, vector-lawful}
 use Rattle.network.specs.declared.Shape.{Shape}
-use Rattle.network.specs.Network.{Network, rows, links, links_of}
+use Rattle.network.specs.Network.{Links, Network, rows, links_of}
 use Rattle.network.specs.inner.Sound.{LinksSound}
 use Rattle.system.specs.declared.CameraTerm.{CameraTerm}
 use Rattle.system.specs.System.{Weights, weights_of, terms, anchor}
@@ -25,11 +26,11 @@ use Rattle.std.proofs.Common.{Result, Ok, Err}
 use Rattle.cholesky.specs.declared.Breakdown.{Breakdown}
 use Rattle.cholesky.specs.Cholesky.{then, ended, factor, forward, back, substitution, solution, Substituted}
 use Rattle.cholesky.proofs.Factored.{ended-done, ended-stopped}
-use Rattle.dense.specs.Matrix.{matrix_by}
+use Rattle.dense.specs.Matrix.{times, diagonal_step, couplings, matrix_by}
 use Rattle.dense.specs.Dense.{dimension, right_of, camera_vector, spread, cameras_by, dense_solution_by, dense_solution}
-use Rattle.dense.specs.inner.Held.{cameras_of, DenseKept, MatrixFactored, RightSolved, DenseSolved}
+use Rattle.dense.specs.inner.Held.{matrix_changed, cameras_of, DenseKept, MatrixFactored, RightSolved, DenseSolved}
 use Rattle.dense.proofs.Changes.{AgreeOn, lent-part, lent_length, lent_back}
-use Rattle.dense.proofs.Steps.{matrix-same, length-matrix}
+use Rattle.dense.proofs.Steps.{built, matrix-same, length-matrix}
 
 -- ---- what is kept
 
@@ -148,18 +149,24 @@ module _ (s : Shape) (a d : ℕ) (l w : List Float) (f : Result (Unit {0}) Break
 
 -- ---- the whole
 
-pub dense-done : (s : Shape) (ends offsets listed : List ℕ) (a : ℕ) (l w u : List Float) (r : Result (Unit {0}) Breakdown) → LinksSound (links s ends offsets listed) → work_end s (s.cameras - 1) ≤ length l →
-    w ≡ write l (matrix_at s) (matrix_by (links s ends offsets listed) (weights_in s l) (load term l 0 s.cameras) a (s.cameras - 1)) →
-    DenseSolved s (s.cameras - 1) (cameras_by s a (load term w 0 s.cameras) (part w (matrix_at s) ((s.cameras - 1) * (s.cameras - 1)))) w u r →
-    DenseSolved s (dimension s) (dense_solution_by (links s ends offsets listed) (weights_in s l) (load term l 0 s.cameras) a) l u r
+-- with the shape t as it was read
+pub dense-done : (L : Links) (t : Shape) (a : ℕ) (l m w v u : List Float) (r : Result (Unit {0}) Breakdown) → LinksSound L → t ≡ L.shape → work_end L.shape (dimension L.shape) ≤ length l →
+    m ≡ write l (matrix_at t) (replicate ((t.cameras - 1) * (t.cameras - 1)) null) →
+    w ≡ matrix_changed t (t.cameras - 1) (times (diagonal_step a (t.cameras - 1)) t.cameras) m →
+    v ≡ matrix_changed L.shape (t.cameras - 1) (couplings a (t.cameras - 1) L) w →
+    DenseSolved t (t.cameras - 1) (cameras_by t a (load term v 0 t.cameras) (part v (matrix_at t) ((t.cameras - 1) * (t.cameras - 1)))) v u r →
+    DenseSolved L.shape (dimension L.shape) (dense_solution_by L (weights_in L.shape l) (load term l 0 L.shape.cameras) a) l u r
 unfolding dense_solution_by
-dense-done s ends offsets listed a l w u r K room ew h =
+dense-done L t a l m w v u r K et room em ew ev h =
+    let s = L.shape in
     let d = dimension s in
-    let A = matrix_by (links s ends offsets listed) (weights_in s l) (load term l 0 s.cameras) a d in
-    let z : length A ≡ d * d = length-matrix (links s ends offsets listed) K (weights_in s l) (load term l 0 s.cameras) a d in
-    let k : DenseKept s d l w = kept-write s d l w A ew (omega arith) in
-    let p : part w (matrix_at s) (d * d) ≡ A = part-written l w A (matrix_at s) (d * d) ew z (omega arith) in
-    record { answer = rw (p, k.terms) at h.answer; kept = kept-kept s d l w u k h.kept }
+    let A = matrix_by L (weights_in s l) (load term l 0 s.cameras) a d in
+    let z : length A ≡ d * d = length-matrix L K (weights_in s l) (load term l 0 s.cameras) a d in
+    let e : v ≡ write l (matrix_at s) A = built L K a d l room m w v (rw et at em) (rw et at ew) (rw et at ev) in
+    let k : DenseKept s d l v = kept-write s d l v A e (omega arith) in
+    let p : part v (matrix_at s) (d * d) ≡ A = part-written l v A (matrix_at s) (d * d) e z (omega arith) in
+    let g = rw et at h in
+    record { answer = rw (p, k.terms) at g.answer; kept = kept-kept s d l v u k g.kept }
 
 -- A buffer that holds the network's segments gives the network's own solution.
 pub dense-held : (net : Network) (l : List Float) (a : ℕ) → LinksSound (links_of net) → Segments net.shape (weights_of net) (terms net) l → a ≡ anchor net →

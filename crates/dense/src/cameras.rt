@@ -1,133 +1,89 @@
 // The right side of the dense system, and the cameras of its solution: the Rust's `solve_with_factor`.
-ghost use Rattle.std.specs.Prelude.{◌≡◌, ◌+◌, ◌*◌, ◌^◌, ◌<◌, ◌≤◌, length};
+ghost use Rattle.std.specs.Prelude.{◌≡◌, ◌*◌, ◌<◌, length};
 ghost use Rattle.field.specs.Count.{field};
-ghost use Rattle.field.specs.Buffer.{load, store, vector, put, part};
-ghost use Rattle.network.specs.inner.Sound.{ShapeSound};
-ghost use Rattle.system.specs.System.{term_at};
+ghost use Rattle.field.specs.Buffer.{load, store, vector, part};
 ghost use Rattle.system.specs.Work.{term, positions_at, matrix_at, dense_right_at};
 ghost use Rattle.dense.specs.Rows.{dense_row};
-ghost use Rattle.dense.specs.Dense.{right_of, row_vector, camera_vector};
-ghost use Rattle.dense.specs.inner.Held.{RowWithin, DenseRoom, put_row, cameras_of, RightSolved, DenseSolved};
+ghost use Rattle.dense.specs.Dense.{right_of, camera_vector};
+ghost use Rattle.dense.specs.inner.Held.{SystemRoom, put_row, cameras_of, RightSolved, DenseSolved};
 
-use crate::rows::{DenseRow, dense_row};
+use crate::rows::DenseSystem;
 use cholesky::{Breakdown, substitute};
 use field::{Vec3, get3, put3, zero};
-use network::Shape;
 use system::get_term;
-use system::work::{dense_right_at, matrix_at, positions_at};
+use system::work::{matrix_at, positions_at};
 
-// The place of a row's vector, of d from `at` on.
-fn vector_place(d: usize, at: usize, p: DenseRow) -> usize
-    requires { (p.0 < d) × (at + 3 * d < 2 ^ 64) }
-    ensures { (result ≡ at + 3 * p.0) × (result + 3 ≤ at + 3 * d) }
+// Camera c's vector v into the right side: the anchor has no place there.
+fn put_right(system: DenseSystem, work: &mut [f64], c: usize, v: Vec3)
+    requires room { SystemRoom system.shape system (length work.old) }
+    requires c_lt_cameras { c < system.shape.cameras }
+    ensures { work.new ≡ put_row (dense_right_at system.shape system.size)
+        (dense_row c system.anchor) v work.old }
 {
-    at + 3 * p.index()
-}
-
-// A row's vector v into the right side of d rows that stands from `at` on.
-fn put_row(work: &mut [f64], d: usize, at: usize, row: Option<DenseRow>, v: Vec3)
-    requires { (at + 3 * d ≤ length work.old) × RowWithin d row }
-    ensures { work.new ≡ put_row at row v work.old }
-{
-    let Some(p) = row else {
+    let Some(p) = system.row(c) else {
         return;
     };
-    let k = vector_place(d, at, p);
-    put3(work, k, v);
-}
-
-// The right side of camera c, from its term.
-fn put_right(s: Shape, anchor: usize, d: usize, work: &mut [f64], c: usize)
-    requires shape_sound { ShapeSound s }
-    requires dense_room { DenseRoom s d (length work.old) }
-    requires anchor_lt_cameras { (anchor < s.cameras) × (c < s.cameras) }
-    ensures { work.new ≡ put_row (dense_right_at s d) (dense_row c anchor)
-        (term_at (load term work.old 0 s.cameras) c).right work.old }
-{
-    let at = dense_right_at(s, d);
-    let t = get_term(work, c);
-    let row = dense_row(c, anchor);
-    put_row(work, d, at, row, t.right);
+    put3(work, system.vector_place(p), v);
 }
 
 // The right sides of all cameras but the anchor.
-fn fill_right(s: Shape, anchor: usize, d: usize, work: &mut [f64])
-    requires shape_sound { ShapeSound s }
-    requires dense_room { DenseRoom s d (length work.old) }
-    requires anchor_lt_cameras { anchor < s.cameras }
-    ensures { work.new ≡ store vector work.old (dense_right_at s d)
-        (field d (right_of anchor (load term work.old 0 s.cameras))) }
+fn fill_right(system: DenseSystem, work: &mut [f64])
+    requires room { SystemRoom system.shape system (length work.old) }
+    ensures { work.new ≡ store vector work.old (dense_right_at system.shape system.size)
+        (field system.size (right_of system.anchor (load term work.old 0 system.shape.cameras))) }
 {
-    for c in 0..s.cameras {
-        put_right(s, anchor, d, work, c);
+    for c in 0..system.shape.cameras {
+        let t = get_term(work, c);
+        put_right(system, work, c, t.right);
     }
 }
 
-// The solution of d rows in the right side's place, by the factor that stands before it.
-fn solve_right(s: Shape, d: usize, work: &mut [f64]) -> Result<(), Breakdown>
-    requires shape_sound { ShapeSound s }
-    requires dense_room { DenseRoom s d (length work.old) }
-    ensures { RightSolved s d work.old work.new result }
+// The solution in the right side's place, by the factor that stands before it.
+fn solve_right(system: DenseSystem, work: &mut [f64]) -> Result<(), Breakdown>
+    requires room { SystemRoom system.shape system (length work.old) }
+    ensures { RightSolved system.shape system.size work.old work.new result }
 {
-    let at = matrix_at(s);
-    let end = dense_right_at(s, d) + 3 * d;
-    substitute(&mut work[at..end], d)
+    let at = matrix_at(system.shape);
+    let end = system.right_at() + 3 * system.size;
+    substitute(&mut work[at..end], system.size)
 }
 
-// A row's vector of the solution of d rows that stands from `at` on, and zero at the anchor.
-fn row_vector(work: &[f64], d: usize, at: usize, row: Option<DenseRow>) -> Vec3
-    requires { (at + 3 * d ≤ length work.now) × RowWithin d row }
-    ensures { result ≡ row_vector (load vector work.now at d) row }
+// Camera c's vector of the solution that stands in the right side's place, and zero at the anchor.
+fn camera_vector(system: DenseSystem, work: &[f64], c: usize) -> Vec3
+    requires room { SystemRoom system.shape system (length work.now) }
+    requires c_lt_cameras { c < system.shape.cameras }
+    ensures { result ≡ camera_vector system.anchor
+        (load vector work.now (dense_right_at system.shape system.size) system.size) c }
 {
-    let Some(p) = row else {
+    let Some(p) = system.row(c) else {
         return zero();
     };
-    let k = vector_place(d, at, p);
-    get3(work, k)
+    get3(work, system.vector_place(p))
 }
 
-// The vector of camera c into the positions.
-fn put_camera(s: Shape, anchor: usize, d: usize, work: &mut [f64], c: usize)
-    requires shape_sound { ShapeSound s }
-    requires dense_room { DenseRoom s d (length work.old) }
-    requires anchor_lt_cameras { (anchor < s.cameras) × (c < s.cameras) }
-    ensures { work.new ≡ put vector work.old (positions_at s + 3 * c)
-        (camera_vector anchor (load vector work.old (dense_right_at s d) d) c) }
+// The cameras' vectors into the positions. (Not by a closure, as iterative fills its fields: its contract, of any closure, is longer than this loop.)
+fn spread(system: DenseSystem, work: &mut [f64])
+    requires room { SystemRoom system.shape system (length work.old) }
+    ensures { work.new ≡ store vector work.old (positions_at system.shape)
+        (field system.shape.cameras (camera_vector system.anchor
+        (load vector work.old (dense_right_at system.shape system.size) system.size))) }
 {
-    let at = dense_right_at(s, d);
-    let row = dense_row(c, anchor);
-    let v = row_vector(work, d, at, row);
-    put3(work, positions_at(s) + 3 * c, v);
-}
-
-// The cameras' vectors into the positions.
-fn spread(s: Shape, anchor: usize, d: usize, work: &mut [f64])
-    requires shape_sound { ShapeSound s }
-    requires dense_room { DenseRoom s d (length work.old) }
-    requires anchor_lt_cameras { anchor < s.cameras }
-    ensures { work.new ≡ store vector work.old (positions_at s)
-        (field s.cameras (camera_vector anchor (load vector work.old (dense_right_at s d) d))) }
-{
-    for c in 0..s.cameras {
-        put_camera(s, anchor, d, work, c);
+    let at = positions_at(system.shape);
+    for c in 0..system.shape.cameras {
+        let v = camera_vector(system, work, c);
+        put3(work, at + 3 * c, v);
     }
 }
 
 // The cameras, by the factor that stands in the matrix's place and the terms.
-pub(crate) fn place_cameras(
-    s: Shape,
-    anchor: usize,
-    d: usize,
-    work: &mut [f64],
-) -> Result<(), Breakdown>
-    requires shape_sound { ShapeSound s }
-    requires dense_room { DenseRoom s d (length work.old) }
-    requires anchor_lt_cameras { anchor < s.cameras }
-    ensures { DenseSolved s d (cameras_of s anchor d (load term work.old 0 s.cameras)
-        (part work.old (matrix_at s) (d * d))) work.old work.new result }
+pub(crate) fn place_cameras(system: DenseSystem, work: &mut [f64]) -> Result<(), Breakdown>
+    requires room { SystemRoom system.shape system (length work.old) }
+    ensures { DenseSolved system.shape system.size
+        (cameras_of system.shape system.anchor system.size (load term work.old 0 system.shape.cameras)
+        (part work.old (matrix_at system.shape) (system.size * system.size))) work.old work.new result }
 {
-    fill_right(s, anchor, d, work);
-    solve_right(s, d, work)?;
-    spread(s, anchor, d, work);
+    fill_right(system, work);
+    solve_right(system, work)?;
+    spread(system, work);
     Ok(())
 }

@@ -1,22 +1,17 @@
 -- What a test says of the sort of a double: a NaN, an infinity, a finite number. Assumes nothing.
-use mathlib.Core.Path.{◌≡◌, refl, sym, ◌∙◌}
-use mathlib.Core.Bool.{Bool, true, false, not, cond, ◌&&◌, beq, true≢false, false≢true}
+use mathlib.Core.Path.{◌≡◌, refl, sym}
+use mathlib.Core.Bool.{Bool, true, false, not, cond, beq}
 use Prim.Native.Nat.{ℕ, zero, suc, ◌+◌, ◌*◌, ◌/◌, ◌%◌, ◌<◌, ◌≤◌}
 use native.Mathlib.Omega.{arith}
-use borrow.Author.Tests.{eq-eqb, ne_eqb, ltb-true, ltb-false, eqb-true}
+use borrow.Author.Tests.{eq-eqb, ne_eqb}
 use lib.Dec.{T, leb}
 use lib.Arith.{le→nltb}
-use lib.IntN.{pos}
-use lib.Ieee.{Float, nan, inf, fin, Format, binary64, neg, lt, eq, ne, odd, of_fields, of_bits, to_bits, nan_bits, is_nan, fits, up, down}
-use lib.Ieee.Back.{whole_unique}
+use lib.Ieee.{Float, nan, inf, fin, binary64, lt, eq, ne, odd, of_fields, of_bits, to_bits, nan_bits, is_nan, up, down}
 use lib.Ieee.Bits.{nan_bits_above}
 use lib.Ieee.Compare.{differs_from_itself}
+use Rattle.std.specs.Float.{float_with_sign}
 use Rattle.double.specs.declared.Decoded.TheVariants.{Finite, Infinite, NotANumber}
 use Rattle.double.specs.Double.{greater, magnitude, sorted, decoded}
-
-and_first : (a b : Bool) → (a && b) ≡ true → a ≡ true
-and_first true b h = refl
-and_first false b h = h
 
 beq_same : (s : Bool) → beq s s ≡ true
 beq_same true = refl
@@ -30,12 +25,12 @@ differs nan = refl
 differs (inf s) = rw (beq_same s)
 differs (fin s m e) = rw (eq-eqb (m * up e * down e) (m * up e * down e) refl, beq_same s)
 
-pub nan-bits : (x : Float) → ne x x ≡ true → 0x7ff8_0000_0000_0000 ≡ to_bits binary64 x
+pub nan-bits : (x : Float) → is_nan x ≡ true → 0x7ff8_0000_0000_0000 ≡ to_bits binary64 x
 unfolding to_bits
-nan-bits x h = rw (differs_from_itself x (rw h tt))
+nan-bits x h = rw (differs_from_itself x (rw (differs x, h) tt))
 
-pub no_nan : (x : Float) → ne x x ≡ false → T (not (is_nan x))
-no_nan x h = rw (sym (differs x) ∙ h) tt
+pub no_nan : (x : Float) → is_nan x ≡ false → T (not (is_nan x))
+no_nan x h = rw h tt
 
 -- ---- the greater
 
@@ -48,50 +43,21 @@ module _ (x y : Float) where
   unfolding greater
   greater-second h = rw h (sym (either (is_nan x) y))
 
-  pub greater-past-nan : ne x x ≡ true → y ≡ greater x y
+  pub greater-past-nan : is_nan x ≡ true → y ≡ greater x y
   unfolding greater
-  greater-past-nan h = rw (sym (differs x) ∙ h)
+  greater-past-nan h = rw h
 
-  pub greater-first : lt x y ≡ false → ne x x ≡ false → x ≡ greater x y
+  pub greater-first : lt x y ≡ false → is_nan x ≡ false → x ≡ greater x y
   unfolding greater
-  greater-first h k = rw (h, sym (differs x) ∙ k)
+  greater-first h k = rw (h, k)
 
 -- ---- the magnitude
 
-pub magnitude-below : (x : Float) → lt x (of_bits binary64 0) ≡ true → neg x ≡ magnitude x
-unfolding lt neg magnitude of_bits
-magnitude-below nan h = absurd (false≢true h)
-magnitude-below (inf true) h = refl
-magnitude-below (inf false) h = absurd (false≢true h)
-magnitude-below (fin true m e) h = refl
-magnitude-below (fin false m e) h = absurd (omega (arith, ltb-true (m * up e * 1) (0 * 1 * down e) h))
-
-magnitude-fits : (f : Format) (x : Float) → T (fits f x) → T (fits f (magnitude x))
-unfolding magnitude fits
-magnitude-fits f nan h = tt
-magnitude-fits f (inf s) h = tt
-magnitude-fits f (fin s zero e) h = h
-magnitude-fits f (fin s (suc m) e) h = h
-
-pub magnitude-zero : (x : Float) → T (fits binary64 x) → eq x (of_bits binary64 0) ≡ true → of_bits binary64 0 ≡ magnitude x
-unfolding eq magnitude of_bits fits
-magnitude-zero nan F h = absurd (false≢true h)
-magnitude-zero (inf s) F h = absurd (false≢true h)
-magnitude-zero (fin s m e) F h =
-    let z : m * up e * 1 ≡ 0 * 1 * down e = eqb-true (m * up e * 1) (0 * 1 * down e) (and_first _ _ h) in
-    whole_unique binary64 (fin false 0 (pos 0)) (fin false m e) false 0 tt (magnitude-fits binary64 (fin s m e) F) (refl, refl) (refl, omega arith)
-
-pub magnitude-above : (x : Float) → lt x (of_bits binary64 0) ≡ false → eq x (of_bits binary64 0) ≡ false → x ≡ magnitude x
-unfolding lt eq magnitude of_bits
-magnitude-above nan h k = refl
-magnitude-above (inf true) h k = absurd (true≢false h)
-magnitude-above (inf false) h k = refl
-magnitude-above (fin false m e) h k = refl
-magnitude-above (fin true m e) h k =
-    let z : m * up e * 1 + 0 * 1 * down e ≤ 0 = ltb-false 0 (m * up e * 1 + 0 * 1 * down e) h in
-    let q : m * up e * 1 ≡ 0 * 1 * down e = omega arith in
-    let w : m * up e * 1 ≡ 0 = omega arith in
-    absurd (true≢false (sym (rw (eq-eqb _ _ q, eq-eqb _ _ w) refl) ∙ k))
+pub magnitude-is : (x : Float) → float_with_sign false x ≡ magnitude x
+unfolding float_with_sign magnitude
+magnitude-is nan = refl
+magnitude-is (inf s) = refl
+magnitude-is (fin s m e) = refl
 
 -- ---- what 64 bits stand for
 

@@ -6,7 +6,8 @@ ghost use lib.Ieee.{binary64, lt, of_bits, to_bits};
 ghost use Rattle.std.specs.Float.Ieee.Scale.{finite};
 ghost use Rattle.double.specs.Double.{greater, magnitude, decoded};
 
-// x - x is 0 where x is finite, and NaN elsewhere, of which no comparison holds. Here and in the next three one comparison tells all.
+// x - x is 0 where x is finite, and NaN elsewhere, of which no comparison holds. Here and in the next three one comparison tells all;
+// std's `is_finite` asks x - x == 0, for which two flags are read.
 pub fn is_finite(x: f64) -> bool
     ensures { result ≡ finite x }
 {
@@ -33,42 +34,40 @@ pub fn is_positive(x: f64) -> bool
     x - x < x
 }
 
+// This and `abs` are std's, told by the definitions of this kernel, which its contracts name.
 pub fn is_nan(x: f64) -> bool
     ensures { result ≡ lib.Ieee.is_nan x }
 {
-    x != x
+    x.is_nan()
 }
 
-// The greater of two, passing over a NaN: Rust's `f64::max`.
+// The greater of two, passing over a NaN: Rust's `f64::max`, which leaves open which of two zeros it answers. This one answers the first.
 pub fn max(x: f64, y: f64) -> f64
     ensures { result ≡ greater x y }
 {
     if x < y {
         return y;
     }
-    if x != x { y } else { x }
+    if x.is_nan() { y } else { x }
 }
 
 pub fn abs(x: f64) -> f64
     ensures { result ≡ magnitude x }
 {
-    if x < 0.0 {
-        return -x;
-    }
-    if x == 0.0 { 0.0 } else { x }
+    x.abs()
 }
 
 // The 64 bits of x for printing: every NaN is 7ff8000000000000.
 pub fn to_bits(x: f64) -> u64
     ensures { result ≡ to_bits binary64 x }
 {
-    if x != x {
+    if x.is_nan() {
         return 0x7ff8_0000_0000_0000;
     }
     f64::to_bits(x)
 }
 
-// What 64 bits stand for.
+// What 64 bits stand for. (No `Option`: an infinity keeps its sign.)
 #[derive(Clone, Copy)]
 pub enum Decoded {
     Finite(f64),
@@ -76,6 +75,7 @@ pub enum Decoded {
     NotANumber,
 }
 
+// (No `From<u64>`: that would be any number's conversion, and what is read here are bits; it pairs with `to_bits`.)
 pub fn from_bits(b: u64) -> Decoded
     ensures { result ≡ decoded b }
 {

@@ -5,14 +5,14 @@ use Rattle.std.specs.Prelude.{ℕ, ◌≡◌, List, length, Float}
 use Rattle.network.specs.declared.Refusal.{Refusal}
 use Rattle.network.specs.declared.Shape.{Shape}
 use Rattle.network.specs.Refusals.{Verdict}
-use Rattle.network.specs.Network.{Graph}
+use Rattle.network.specs.Network.{Content, Graph}
 use Rattle.network.specs.Refusals.{verdict, count_tests}
 use Rattle.graph.specs.Outcome.{ConnectivityCall, ListingCall}
 use Rattle.system.specs.Work.{length_of}
-use Rattle.recover.specs.Calls.{PlacedNetwork, DotsFilled, ScalesFilled}
+use Rattle.recover.specs.Recover.{dots_of, scales_of}
+use Rattle.recover.specs.Calls.{PlacedNetwork, Filled, cameras_of}
 use Rattle.placement.specs.Routes.{Submission}
 use Rattle.placement.specs.Solved.{Solved}
-use Rattle.layout.specs.Image.{Content}
 use Rattle.image.specs.Tests.{counts_tests}
 use Rattle.image.specs.Calls.{Lists, counts_of, Reads, Writes}
 use Rattle.exports.specs.Codes.{code_of, report_of, yes_or_no, one, nothing, solved, counted, Unreported}
@@ -58,15 +58,18 @@ LengthCall s route limit = Reporting 1 (count_verdict s) Unit (λ a. a ≡ lengt
 
 -- ---- dots and scales
 
-abbrev pub DotsCall : (i : PlacedNetwork) (code : ℕ) (marks marks' : List ℕ) (out out' : List Float) (report report' : List ℕ) → Type 0
-DotsCall i code marks marks' out out' =
+-- a call that fills the output with f of what it is lent
+abbrev pub FilledCall : (i : PlacedNetwork) (f : PlacedNetwork → List Float) (code : ℕ) (marks marks' : List ℕ) (out out' : List Float)
+    (report report' : List ℕ) → Type 0
+FilledCall i f code marks marks' out out' =
     Reporting 1 (count_verdict i.net.shape) ((marks' ≡ marks) × (out' ≡ out))
-    (λ a. DotsFilled i a marks marks' out out') nothing code
+    (λ a. Filled i (f i) a marks marks' out out') nothing code
+
+abbrev pub DotsCall : (i : PlacedNetwork) (code : ℕ) (marks marks' : List ℕ) (out out' : List Float) (report report' : List ℕ) → Type 0
+DotsCall i = FilledCall i (λ i. dots_of i.net (cameras_of i))
 
 abbrev pub ScalesCall : (i : PlacedNetwork) (code : ℕ) (marks marks' : List ℕ) (out out' : List Float) (report report' : List ℕ) → Type 0
-ScalesCall i code marks marks' out out' =
-    Reporting 1 (count_verdict i.net.shape) ((marks' ≡ marks) × (out' ≡ out))
-    (λ a. ScalesFilled i a marks marks' out out') nothing code
+ScalesCall i = FilledCall i (λ i. scales_of i.net (cameras_of i))
 
 -- ---- the solve
 

@@ -10,7 +10,7 @@ use placement::Report;
 pub(crate) fn yes_or_no(yes: bool) -> [usize; 1]
     ensures { result ≡ yes_or_no yes }
 {
-    if yes { [1] } else { [0] }
+    [usize::from(yes)]
 }
 
 pub(crate) fn one(number: usize) -> [usize; 1]
@@ -25,6 +25,7 @@ pub(crate) fn nothing(_: ()) -> [usize; 1]
     [0]
 }
 
+// Not by `From`: it and the types, here and in `counted`, are other crates'.
 pub(crate) fn solved(p: Report) -> [usize; 4]
     ensures { result ≡ solved p }
 {

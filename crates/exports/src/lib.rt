@@ -1,31 +1,44 @@
 // The entry points for C and Rust to link. A slice is a pointer and then a length. A call answers 0, or a refusal's number with its place as the
 // report's first number. A report of another length than the call's is refused by 3, in its turn after the tests before 3.
+// C lends each list by itself, so every function has a parameter for each; where the call takes them as one, its body makes that struct. Route and mark
+// are numbers, as C has them.
 #![tactic(auto)]
 
 mod codes;
 
 ghost use Rattle.std.specs.Prelude.{◌≡◌, not, eqb, length};
+ghost use Rattle.exports.specs.Codes.{Unreported};
 ghost use Rattle.std.specs.Float.{binary64};
 ghost use Rattle.sqrt.specs.Root.{root};
-ghost use Rattle.network.specs.Network.{shape as shape_of, graph as graph_of, network as network_of};
+ghost use Rattle.network.specs.Network.{content, shape as shape_of, graph as graph_of, network as network_of};
 ghost use Rattle.recover.specs.Calls.{placed as placed_of};
 ghost use Rattle.placement.specs.Routes.{submission};
-ghost use Rattle.layout.specs.Image.{content};
 ghost use Rattle.image.specs.Calls.{lists as lists_of};
 ghost use Rattle.exports.specs.Calls.{ConnectedCall, PartsCall, LengthCall, DotsCall, ScalesCall, SolveCall};
 ghost use Rattle.exports.specs.Calls.{CountsCall, ReadCall, WriteCall, ListCall};
 
 use codes::{counted, finish, nothing, one, solved, unreported, yes_or_no};
-use network::{Shape, check_counts};
+use network::lent::{Content, Network};
+use network::{Refusal, Shape, check_counts};
+use recover::{dots, scales as new_scales};
 
-fn shape(n: usize, m: usize, b: usize, e: usize) -> Shape
-    ensures { result ≡ shape_of n m b e }
+// Makes the call where the report has so many numbers; else the verdict of the tests before 3 decides.
+// The call stores what it tells by itself: the borrow checker does not cover a bound that names the N of an answer [usize; N].
+fn reported<F: FnMut(&mut [usize]) -> usize>(
+    report: &mut [usize],
+    count: usize,
+    earlier: Result<(), Refusal>,
+    call: &mut F,
+) -> usize
+    requires { (r : _) → length r.now ≡ count → F.pre call.old r }
+    ensures whole { length report.old ≡ count → (r : _) × (q : _) × (r.now ≡ report.old)
+        × F.step call.old r result q call.new × (q.now ≡ report.new) }
+    ensures otherwise { (length report.old ≡ count → ⊥) → Unreported earlier result report.old report.new × (call.new ≡ call.old) }
 {
-    Shape {
-        cameras: n,
-        points: m,
-        bearings: b,
-        directions: e,
+    if report.len() == count {
+        call(report)
+    } else {
+        unreported(report, earlier)
     }
 }
 
@@ -52,12 +65,12 @@ pub extern "C" fn vobzeile_connected(
     ensures { ConnectedCall (graph_of (shape_of n m b e) ends.now weights.now) result
         nodes.old nodes.new report.old report.new }
 {
-    let s = shape(n, m, b, e);
-    if report.len() != 1 {
-        return unreported(report, check_counts(s));
-    }
-    let answer = graph::is_connected(s, ends, weights, nodes);
-    finish(report, answer.map(yes_or_no))
+    let s = Shape::new(n, m, b, e);
+    let mut call = |told: &mut [usize]| finish(
+        told,
+        graph::is_connected(s, ends, weights, nodes).map(yes_or_no),
+    );
+    reported(report, 1, check_counts(s), &mut call)
 }
 
 // The parts listing: reports the number of parts.
@@ -76,12 +89,12 @@ pub extern "C" fn vobzeile_parts(
     ensures { PartsCall (graph_of (shape_of n m b e) ends.now weights.now) result
         nodes.old nodes.new labels.old labels.new report.old report.new }
 {
-    let s = shape(n, m, b, e);
-    if report.len() != 1 {
-        return unreported(report, check_counts(s));
-    }
-    let answer = graph::parts(s, ends, weights, nodes, labels);
-    finish(report, answer.map(one))
+    let s = Shape::new(n, m, b, e);
+    let mut call = |told: &mut [usize]| finish(
+        told,
+        graph::parts(s, ends, weights, nodes, labels).map(one),
+    );
+    reported(report, 1, check_counts(s), &mut call)
 }
 
 // Reports the doubles that the work buffer of a solve needs.
@@ -97,17 +110,17 @@ pub extern "C" fn vobzeile_work_length(
 ) -> usize
     ensures { LengthCall (shape_of n m b e) route limit result report.old report.new }
 {
-    let s = shape(n, m, b, e);
-    if report.len() != 1 {
-        return unreported(report, check_counts(s));
-    }
-    let answer = system::work::work_length(s, route, limit);
-    finish(report, answer.map(one))
+    let s = Shape::new(n, m, b, e);
+    let mut call = |told: &mut [usize]| finish(
+        told,
+        system::work::work_length(s, route, limit).map(one),
+    );
+    reported(report, 1, check_counts(s), &mut call)
 }
 
 // The dot of each row with its baseline, bearings first: reports 0. The cameras are those of `trial` where the mark is not 0, else of `current`.
 #[unsafe(no_mangle)]
-pub extern "C" fn vobzeile_dots<'a>(
+pub extern "C" fn vobzeile_dots(
     n: usize,
     m: usize,
     b: usize,
@@ -120,8 +133,8 @@ pub extern "C" fn vobzeile_dots<'a>(
     offsets: &[usize],
     listed: &[usize],
     marks: &mut [usize],
-    current: &'a [f64],
-    trial: &'a [f64],
+    current: &[f64],
+    trial: &[f64],
     mark: usize,
     out: &mut [f64],
     report: &mut [usize],
@@ -132,12 +145,8 @@ pub extern "C" fn vobzeile_dots<'a>(
         (length marks.old) current.now trial.now (not (eqb mark 0)) (length out.old))
         result marks.old marks.new out.old out.new report.old report.new }
 {
-    let s = shape(n, m, b, e);
-    if report.len() != 1 {
-        return unreported(report, check_counts(s));
-    }
-    let answer = recover::dots(
-        s,
+    let net = Network {
+        shape: Shape::new(n, m, b, e),
         ends,
         rays,
         weights,
@@ -145,18 +154,17 @@ pub extern "C" fn vobzeile_dots<'a>(
         points,
         offsets,
         listed,
-        marks,
-        current,
-        trial,
-        mark != 0,
-        out,
+    };
+    let mut call = |told: &mut [usize]| finish(
+        told,
+        dots(&net, marks, current, trial, mark != 0, out).map(nothing),
     );
-    finish(report, answer.map(nothing))
+    reported(report, 1, check_counts(net.shape()), &mut call)
 }
 
 // The scale of each row, kept or renewed, bearings first: reports 0. The cameras are those of `trial` where the mark is not 0, else of `current`.
 #[unsafe(no_mangle)]
-pub extern "C" fn vobzeile_scales<'a>(
+pub extern "C" fn vobzeile_scales(
     n: usize,
     m: usize,
     b: usize,
@@ -169,8 +177,8 @@ pub extern "C" fn vobzeile_scales<'a>(
     offsets: &[usize],
     listed: &[usize],
     marks: &mut [usize],
-    current: &'a [f64],
-    trial: &'a [f64],
+    current: &[f64],
+    trial: &[f64],
     mark: usize,
     out: &mut [f64],
     report: &mut [usize],
@@ -181,12 +189,8 @@ pub extern "C" fn vobzeile_scales<'a>(
         (length marks.old) current.now trial.now (not (eqb mark 0)) (length out.old))
         result marks.old marks.new out.old out.new report.old report.new }
 {
-    let s = shape(n, m, b, e);
-    if report.len() != 1 {
-        return unreported(report, check_counts(s));
-    }
-    let answer = recover::scales(
-        s,
+    let net = Network {
+        shape: Shape::new(n, m, b, e),
         ends,
         rays,
         weights,
@@ -194,13 +198,12 @@ pub extern "C" fn vobzeile_scales<'a>(
         points,
         offsets,
         listed,
-        marks,
-        current,
-        trial,
-        mark != 0,
-        out,
+    };
+    let mut call = |told: &mut [usize]| finish(
+        told,
+        new_scales(&net, marks, current, trial, mark != 0, out).map(nothing),
     );
-    finish(report, answer.map(nothing))
+    reported(report, 1, check_counts(net.shape()), &mut call)
 }
 
 // The solve: reports anchor, route, rounds and few.
@@ -232,15 +235,22 @@ pub extern "C" fn vobzeile_solve(
         result marks.old marks.new work.old work.new cameras.old cameras.new
         placed.old placed.new report.old report.new }
 {
-    let s = shape(n, m, b, e);
-    if report.len() != 4 {
-        return unreported(report, check_counts(s));
-    }
-    let answer = placement::solve(
-        s, ends, rays, weights, scales, points, offsets, listed, marks, route, limit, work,
-        cameras, placed,
+    let s = Shape::new(n, m, b, e);
+    let net = Network {
+        shape: s,
+        ends,
+        rays,
+        weights,
+        scales,
+        points,
+        offsets,
+        listed,
+    };
+    let mut call = |told: &mut [usize]| finish(
+        told,
+        placement::solve(&net, marks, route, limit, work, cameras, placed).map(solved),
     );
-    finish(report, answer.map(solved))
+    reported(report, 4, check_counts(s), &mut call)
 }
 
 // The counts of an image: reports n, m, B, E.
@@ -248,11 +258,8 @@ pub extern "C" fn vobzeile_solve(
 pub extern "C" fn vobzeile_counts(bytes: &[u8], report: &mut [usize]) -> usize
     ensures { CountsCall bytes.now result report.old report.new }
 {
-    if report.len() != 4 {
-        return unreported(report, image::check_counted(bytes));
-    }
-    let answer = image::counts(bytes);
-    finish(report, answer.map(counted))
+    let mut call = |told: &mut [usize]| finish(told, image::counts(bytes).map(counted));
+    reported(report, 4, image::check_counted(bytes), &mut call)
 }
 
 // Reads an image into slices that its counts fit: reports n, m, B, E.
@@ -271,11 +278,11 @@ pub extern "C" fn vobzeile_read(
         (lists_of ends.new rays.new weights.new scales.new points.new)
         result report.old report.new }
 {
-    if report.len() != 4 {
-        return unreported(report, image::check_counted(bytes));
-    }
-    let answer = image::read(bytes, ends, rays, weights, scales, points);
-    finish(report, answer.map(counted))
+    let mut call = |told: &mut [usize]| finish(
+        told,
+        image::read(bytes, ends, rays, weights, scales, points).map(counted),
+    );
+    reported(report, 4, image::check_counted(bytes), &mut call)
 }
 
 // Writes the image of a network: reports the bytes written.
@@ -297,12 +304,17 @@ pub extern "C" fn vobzeile_write(
         (content (shape_of n m b e) ends.now rays.now weights.now scales.now points.now)
         out.old out.new result report.old report.new }
 {
-    let s = shape(n, m, b, e);
-    if report.len() != 1 {
-        return unreported(report, check_counts(s));
-    }
-    let answer = image::write(s, ends, rays, weights, scales, points, out);
-    finish(report, answer.map(one))
+    let s = Shape::new(n, m, b, e);
+    let content = Content {
+        shape: s,
+        ends,
+        rays,
+        weights,
+        scales,
+        points,
+    };
+    let mut call = |told: &mut [usize]| finish(told, image::write(&content, out).map(one));
+    reported(report, 1, check_counts(s), &mut call)
 }
 
 // The point lists of a network's rows: reports 0.
@@ -318,9 +330,9 @@ pub extern "C" fn vobzeile_list_points(
     ensures { ListCall m b ends.now offsets.old offsets.new listed.old listed.new result
         report.old report.new }
 {
-    if report.len() != 1 {
-        return unreported(report, Ok(()));
-    }
-    let answer = lists::list_points(m, b, ends, offsets, listed);
-    finish(report, answer.map(nothing))
+    let mut call = |told: &mut [usize]| finish(
+        told,
+        lists::list_points(m, b, ends, offsets, listed).map(nothing),
+    );
+    reported(report, 1, Ok(()), &mut call)
 }

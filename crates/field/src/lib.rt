@@ -5,6 +5,8 @@ ghost use Rattle.std.specs.Prelude.{◌≡◌, cond, ◌++◌, ◌+◌, ◌*◌,
 ghost use Rattle.field.specs.Vec.{null, origin, plus, minus, scale, over, dot as product};
 ghost use Rattle.field.specs.Buffer.{get, put, load, store, vector};
 
+use std::ops::{Add, Div, Mul, Sub};
+
 #[derive(Clone, Copy)]
 pub struct Vec3 {
     pub x: f64,
@@ -13,46 +15,6 @@ pub struct Vec3 {
 }
 
 impl Vec3 {
-    pub fn add(self, other: Vec3) -> Vec3
-        ensures { result ≡ plus self other }
-    {
-        Vec3 {
-            x: self.x + other.x,
-            y: self.y + other.y,
-            z: self.z + other.z,
-        }
-    }
-
-    pub fn sub(self, other: Vec3) -> Vec3
-        ensures { result ≡ minus self other }
-    {
-        Vec3 {
-            x: self.x - other.x,
-            y: self.y - other.y,
-            z: self.z - other.z,
-        }
-    }
-
-    pub fn mul(self, s: f64) -> Vec3
-        ensures { result ≡ scale self s }
-    {
-        Vec3 {
-            x: self.x * s,
-            y: self.y * s,
-            z: self.z * s,
-        }
-    }
-
-    pub fn div(self, s: f64) -> Vec3
-        ensures { result ≡ over self s }
-    {
-        Vec3 {
-            x: self.x / s,
-            y: self.y / s,
-            z: self.z / s,
-        }
-    }
-
     pub fn dot(self, other: Vec3) -> f64
         ensures { result ≡ product self other }
     {
@@ -60,6 +22,63 @@ impl Vec3 {
     }
 }
 
+impl Add for Vec3 {
+    type Output = Vec3;
+
+    ghost add_gives = { λ a b r. r ≡ plus a b };
+
+    fn add(self, other: Vec3) -> Vec3 {
+        Vec3 {
+            x: self.x + other.x,
+            y: self.y + other.y,
+            z: self.z + other.z,
+        }
+    }
+}
+
+impl Sub for Vec3 {
+    type Output = Vec3;
+
+    ghost sub_gives = { λ a b r. r ≡ minus a b };
+
+    fn sub(self, other: Vec3) -> Vec3 {
+        Vec3 {
+            x: self.x - other.x,
+            y: self.y - other.y,
+            z: self.z - other.z,
+        }
+    }
+}
+
+impl Mul<f64> for Vec3 {
+    type Output = Vec3;
+
+    ghost mul_gives = { λ v s r. r ≡ scale v s };
+
+    fn mul(self, s: f64) -> Vec3 {
+        Vec3 {
+            x: self.x * s,
+            y: self.y * s,
+            z: self.z * s,
+        }
+    }
+}
+
+impl Div<f64> for Vec3 {
+    type Output = Vec3;
+
+    ghost div_gives = { λ v s r. r ≡ over v s };
+
+    fn div(self, s: f64) -> Vec3 {
+        Vec3 {
+            x: self.x / s,
+            y: self.y / s,
+            z: self.z / s,
+        }
+    }
+}
+
+// A function, as std's `Default` is one too: `Vec3::default()` would be longer at each use and say less.
 pub fn zero() -> Vec3
     ensures { result ≡ origin }
 {
@@ -103,11 +122,11 @@ pub fn gain3(s: &mut [f64], p: usize, v: Vec3)
     requires { p + 3 ≤ length s.old }
     ensures { s.new ≡ put vector s.old p (plus (get vector s.old p) v) }
 {
-    let u = get3(s, p).add(v);
+    let u = get3(s, p) + v;
     put3(s, p, u);
 }
 
-// A field of n vectors from one buffer to another.
+// A field of n vectors from one buffer to another. (Here and not at its caller, so that the contract can tell it of vectors, which the slices hold as numbers.)
 pub fn copy3(src: &[f64], from: usize, dst: &mut [f64], into: usize, n: usize)
     requires { (from + 3 * n ≤ length src.now) × (into + 3 * n ≤ length dst.old) }
     ensures { dst.new ≡ store vector dst.old into (load vector src.now from n) }
@@ -116,7 +135,7 @@ pub fn copy3(src: &[f64], from: usize, dst: &mut [f64], into: usize, n: usize)
     dst[into..into + count].copy_from_slice(&src[from..from + count]);
 }
 
-// The first m items become `zero`, of which each copy is the same.
+// The first m items become `zero`, of which each copy is the same. (Callers would read `s[..m].fill(zero)` as a list cut and joined; this tells it of the whole.)
 pub fn clear<T: Copy>(s: &mut [T], m: usize, zero: T)
     requires in_bounds { m ≤ length s.old }
     requires copies { T.is_infallible zero }

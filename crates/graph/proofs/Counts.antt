@@ -14,8 +14,8 @@ use borrow.Author.Tests.{eq-eqb, ne_eqb, eqb-true, eqb-false}
 use Rattle.field.specs.Count.{field}
 use Rattle.field.proofs.Counting.{length-field}
 use Rattle.graph.specs.Distinct.{occurs, distinct}
-use Rattle.graph.specs.inner.Forest.{Forest, root_of, SameRoots, Climbed}
-use Rattle.graph.proofs.Forests.{root-falls, root-root, same-roots-refl, same-roots-trans}
+use Rattle.graph.specs.inner.Forest.{root_of, Climbed}
+use Rattle.graph.proofs.Forests.{root-falls, root-root}
 
 -- ---- one number more at the end
 
@@ -75,48 +75,58 @@ module _ (g : ℕ → ℕ) where
 
 -- ---- the labels
 
--- the label of camera c is new just if it is c
-count-own : (p : List ℕ) → Forest p → (c : ℕ) → root_of p c ≡ c → distinct (field (suc c) (root_of p)) ≡ suc (distinct (field c (root_of p)))
-unfolding field
-count-own p f c e =
-    let l : occurs (root_of p c) (field c (root_of p)) ≡ false = field-lacks (root_of p) (root_of p c) c (λ i h d. omega (arith, root-falls p f i)) in
-    distinct-end (root_of p c) (field c (root_of p)) ∙ rw l
+-- where no label g c exceeds its camera c, and each is its own label, the label of camera c is new just if it is c
+module _ (g : ℕ → ℕ) (falls : (x : ℕ) → g x ≤ x) (own : (x : ℕ) → g (g x) ≡ g x) where
+  count-own : (c : ℕ) → g c ≡ c → distinct (field (suc c) g) ≡ suc (distinct (field c g))
+  unfolding field
+  count-own c e =
+      let l : occurs (g c) (field c g) ≡ false = field-lacks g (g c) c (λ i h d. omega (arith, falls i)) in
+      distinct-end (g c) (field c g) ∙ rw l
 
-count-other : (p : List ℕ) → Forest p → (c : ℕ) → (root_of p c ≡ c → ⊥) → distinct (field (suc c) (root_of p)) ≡ distinct (field c (root_of p))
-unfolding field
-count-other p f c d =
-    let l : occurs (root_of p c) (field c (root_of p)) ≡ true = field-holds (root_of p) (root_of p c) (root_of p c) c (omega (arith, root-falls p f c)) (root-root p f c) in
-    distinct-end (root_of p c) (field c (root_of p)) ∙ rw l
+  count-other : (c : ℕ) → (g c ≡ c → ⊥) → distinct (field (suc c) g) ≡ distinct (field c g)
+  unfolding field
+  count-other c d =
+      let l : occurs (g c) (field c g) ≡ true = field-holds g (g c) (g c) c (omega (arith, falls c)) (own c) in
+      distinct-end (g c) (field c g) ∙ rw l
 
 -- ---- the labels, listed one by one
 
--- after c cameras: their labels stand in front, and are counted
+-- after c cameras: the roots are as they were, and the cameras' labels stand in front and are counted
 pub record LabelledBelow (p₀ l₀ p l : List ℕ) (count c : ℕ) : Type 0 where
-  pub same : SameRoots p₀ p
+  pub root : (x : ℕ) → root_of p x ≡ root_of p₀ x
+  pub long : length p ≡ length p₀
   pub listed : l ≡ field c (root_of p₀) ++ drop c l₀
   pub counted : count ≡ distinct (field c (root_of p₀))
   pub few : count ≤ c
 
-pub labels-none : {p : List ℕ} (l : List ℕ) → Forest p → LabelledBelow p l p l 0 0
+pub labels-none : {p : List ℕ} (l : List ℕ) → LabelledBelow p l p l 0 0
 unfolding field distinct
-labels-none {p} l f = record { same = same-roots-refl p f; listed = refl; counted = refl; few = omega arith }
+labels-none l = record { root = λ x. refl; long = refl; listed = refl; counted = refl; few = omega arith }
 
 -- one camera more: its label stands, and is counted if it is the camera itself
-module _ {p₀ l₀ p l q : List ℕ} {count c r : ℕ} (f : Forest p₀) (i : LabelledBelow p₀ l₀ p l count c) (k : Climbed p c r q) (h : c < length l₀) where
+module _ {p₀ l₀ p l q : List ℕ} {count c r : ℕ} (i : LabelledBelow p₀ l₀ p l count c) (k : Climbed p c r q) (n : length q ≡ length p) (h : c < length l₀) where
   found : r ≡ root_of p₀ c
-  found = k.found ∙ i.same.root c
+  found = k.found ∙ i.root c
+
+  back : (x : ℕ) → root_of q x ≡ root_of p₀ x
+  back x = k.same.root x ∙ i.root x
+
+  falls : (x : ℕ) → root_of p₀ x ≤ x
+  falls x = rw back at (root-falls q k.same.forest x)
+
+  own : (x : ℕ) → root_of p₀ (root_of p₀ x) ≡ root_of p₀ x
+  own x = rw (back x, back (root_of p₀ x)) at (root-root q k.same.forest x)
 
   label-more : set l c r ≡ field (c + 1) (root_of p₀) ++ drop (c + 1) l₀
   label-more = rw (i.listed, add-one, found) (field-more (root_of p₀) c l₀ h)
 
   label-step : {count' : ℕ} → count' ≡ distinct (field (suc c) (root_of p₀)) → count' ≤ c + 1 → LabelledBelow p₀ l₀ q (set l c r) count' (c + 1)
-  label-step e w =
-      record { same = same-roots-trans _ _ _ i.same k.same; listed = label-more; counted = rw add-one e; few = w }
+  label-step e w = record { root = back; long = n ∙ i.long; listed = label-more; counted = rw add-one e; few = w }
 
   pub label-own : {count' : ℕ} → r ≡ c → count' ≡ count + 1 → LabelledBelow p₀ l₀ q (set l c r) count' (c + 1)
   label-own e t =
-      label-step (t ∙ rw (i.counted, add-one) (sym (count-own p₀ f c (sym found ∙ e)))) (omega (arith, i.few))
+      label-step (t ∙ rw (i.counted, add-one) (sym (count-own (root_of p₀) falls own c (sym found ∙ e)))) (omega (arith, i.few))
 
   pub label-other : {count' : ℕ} → (r ≡ c → ⊥) → count' ≡ count → LabelledBelow p₀ l₀ q (set l c r) count' (c + 1)
   label-other d t =
-      label-step (t ∙ rw i.counted (sym (count-other p₀ f c (λ e. d (found ∙ e))))) (omega (arith, i.few))
+      label-step (t ∙ rw i.counted (sym (count-other (root_of p₀) falls own c (λ e. d (found ∙ e))))) (omega (arith, i.few))

@@ -109,10 +109,10 @@ halved p f x within d =
       root = link-root p f x y below within (root_of p) (λ z _ e. root-top p f z e) (λ z _. root-up p f z) (root-up p f (parent p x) ∙ root-up p f x);
     }
 
-pub same-roots-trans : (p q r : List ℕ) → SameRoots p q → SameRoots q r → SameRoots p r
+same-roots-trans : (p q r : List ℕ) → SameRoots p q → SameRoots q r → SameRoots p r
 same-roots-trans p q r s t = record { forest = t.forest; root = λ x. t.root x ∙ s.root x }
 
-pub same-roots-refl : (p : List ℕ) → Forest p → SameRoots p p
+same-roots-refl : (p : List ℕ) → Forest p → SameRoots p p
 same-roots-refl p f = record { forest = f; root = λ x. refl }
 
 -- ---- two trees made one

@@ -1,4 +1,6 @@
 // The tests of the two calls, stage after stage: 1 and 2, then 3, then 4, 5 and the weight part of 7.
+// Shape, ends and weights go on as they came: `network::graph::Graph` stands for tested ones, and a type for these would be made by the two calls alone.
+// (One function for both calls, with the labels as an `Option`, would match on it in its contract: the calls' tests are two definitions.)
 ghost use Rattle.std.specs.Prelude.{◌≡◌};
 ghost use Rattle.network.specs.Network.{graph};
 ghost use Rattle.network.specs.Refusals.{verdict};

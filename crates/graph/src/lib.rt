@@ -15,7 +15,6 @@ ghost use Rattle.graph.specs.inner.Forest.{Decides};
 
 use checks::{check_connectivity, check_listing};
 use field::clear;
-use forest::{all_roots_zero, list_labels};
 use network::graph::Graph;
 use network::{Refusal, Shape};
 use rows::join_rows;
@@ -25,8 +24,8 @@ fn connected_in(g: &Graph<'_>, nodes: &mut [usize]) -> bool
     requires { length nodes.old ≡ node_count g.now }
     ensures { Decides result (Connected g.now) }
 {
-    join_rows(g, nodes);
-    all_roots_zero(g.ends().shape().cameras, nodes)
+    let mut trees = join_rows(g, nodes);
+    trees.all_roots_zero(g.ends().shape().cameras)
 }
 
 // The labels and their number, with n + m node numbers to work in.
@@ -35,11 +34,12 @@ fn parts_in(g: &Graph<'_>, nodes: &mut [usize], labels: &mut [usize]) -> usize
     ensures labelled { Labelled g.now labels.new }
     ensures value { result ≡ distinct labels.new }
 {
-    join_rows(g, nodes);
-    list_labels(nodes, labels)
+    let mut trees = join_rows(g, nodes);
+    trees.list_labels(labels)
 }
 
-// The yes or no, once nothing is refused.
+// The yes or no, once nothing is refused. (One function for this and the next would take the work as a closure: its contract, on what the closure asks
+// and leaves of the nodes and the labels, would be longer than the three lines that they share.)
 fn decide(g: &Graph<'_>, nodes: &mut [usize]) -> bool
     requires { node_count g.now ≤ length nodes.old }
     ensures decided { Decides result (Connected g.now) }

@@ -1,10 +1,10 @@
 -- The rows and points of an image, read where they stand: what 4, 5 and 7 say there is what they say of the lists that are read. Assumes nothing.
 use Rattle.std.proofs.Math.Bool.{and_assoc, or_assoc}
-use Rattle.std.proofs.Common.{Option, Some}
-use Prim.Native.Nat.{ℕ, zero, suc, ◌+◌, ◌*◌, ◌/◌, ◌%◌, ◌^◌, ◌<◌, ◌≤◌}
+use Rattle.std.proofs.Common.{None, Option, Some}
+use Prim.Native.Nat.{ℕ, ◌+◌, ◌*◌, ◌/◌, ◌%◌, ◌^◌, ◌<◌, ◌≤◌}
 use mathlib.Core.Path.{◌≡◌, refl, sym, ap, ap₂, ◌∙◌}
 use mathlib.Core.List.{List, [], ◌∷◌}
-use mathlib.Core.Bool.{Bool, true, false, cond, not, ◌&&◌, ◌||◌, true≢false}
+use mathlib.Core.Bool.{Bool, true, false, cond, not, ◌&&◌, ◌||◌}
 use native.Mathlib.Omega.{arith}
 use native.Mathlib.Nat.{add-zero}
 use lib.ListN.{length, get_or}
@@ -13,6 +13,7 @@ use mir.Val.{Fits}
 use lib.Dec.{eqb, ltb, leb}
 use lib.Ieee.{Float, nan, inf, fin, lt}
 use lib.Ieee.Scale.{finite}
+use Rattle.std.specs.Option.{is_some}
 use Rattle.double.specs.declared.Decoded.{Decoded}
 use Rattle.double.specs.declared.Decoded.TheVariants.{Finite, Infinite, NotANumber}
 use Rattle.double.specs.Double.{sorted, decoded}
@@ -28,7 +29,7 @@ use Rattle.network.specs.Refusals.{strays, loops, bad_weight, bad_scale, bad_vec
 use Rattle.network.proofs.Sections.{found_below}
 use Rattle.layout.specs.Bytes.{number_at, u32_at, double_at}
 use Rattle.image.specs.Reading.{spread, wholes_from, doubles_from, ends_from, points_from}
-use Rattle.image.specs.inner.Sound.{bad_row_from}
+use Rattle.image.specs.inner.Sound.{bad_row_from, finite_at}
 
 -- ---- what 64 bits stand for: x is what was decoded of those at p
 
@@ -47,46 +48,58 @@ sorted-nan nan e = refl
 sorted-nan (inf t) e = refl
 sorted-nan (fin t m k) e = absurd (let z : ◌≡◌ {A = ℕ} 0 1 = cc in omega arith)
 
-pub decoded-is : {x : Decoded} {a b : ℕ} → x ≡ decoded a → a ≡ b → x ≡ decoded b
-decoded-is e h = e ∙ ap decoded h
-
-module _ (l : List ℕ) (p : ℕ) {x : Decoded} (e : x ≡ decoded (number_at 8 l p)) where
-  pub decoded-value : (y : Float) → x ≡ Finite y → y ≡ double_at l p
+module _ (l : List ℕ) (p : ℕ) {x : Decoded} {b : ℕ} (e : x ≡ decoded b) (k : b ≡ number_at 8 l p) where
+  same : sorted (double_at l p) ≡ x
   unfolding decoded
-  decoded-value y h = sym (sorted-finite (double_at l p) y (sym e ∙ h)).0
+  same = rw (e, k)
 
-  pub decoded-finite : (y : Float) → x ≡ Finite y → finite (double_at l p) ≡ true
-  unfolding decoded
-  decoded-finite y h = (sorted-finite (double_at l p) y (sym e ∙ h)).1
+  pub finite-there : (y : Float) → x ≡ Finite y → Some y ≡ finite_at l p
+  finite-there y h = let f = sorted-finite (double_at l p) y (same ∙ h) in rw (f.1, f.0)
 
-  pub decoded-infinite : (s : Bool) → x ≡ Infinite s → finite (double_at l p) ≡ false
-  unfolding decoded
-  decoded-infinite s h = sorted-infinite (double_at l p) s (sym e ∙ h)
+  pub infinite-none : (s : Bool) → x ≡ Infinite s → None ≡ finite_at l p
+  infinite-none s h = rw (sorted-infinite (double_at l p) s (same ∙ h))
 
-  pub decoded-nan : x ≡ NotANumber → finite (double_at l p) ≡ false
-  unfolding decoded
-  decoded-nan h = sorted-nan (double_at l p) (sym e ∙ h)
+  pub nan-none : x ≡ NotANumber → None ≡ finite_at l p
+  nan-none h = rw (sorted-nan (double_at l p) (same ∙ h))
 
--- a number that is known to be finite
-pub finite-absurd : (l : List ℕ) (p : ℕ) (y : Float) → finite (double_at l p) ≡ true → finite (double_at l p) ≡ false → y ≡ double_at l p
-finite-absurd l p y e h = absurd (true≢false (sym e ∙ h))
+-- of a finite number, and of another
+module _ (l : List ℕ) (p : ℕ) {x : Option Float} (e : x ≡ finite_at l p) where
+  there : (y : Float) → x ≡ Some y → (finite (double_at l p) ≡ true) × (double_at l p ≡ y)
+  there y h = go (finite (double_at l p)) refl (sym e ∙ h)
+    where
+      go : (b : Bool) → finite (double_at l p) ≡ b → cond b (Some (double_at l p)) None ≡ Some y → (finite (double_at l p) ≡ true) × (double_at l p ≡ y)
+      go true q f = (q, cc)
+      go false q f = absurd (let z : ◌≡◌ {A = ℕ} 0 1 = cc in omega arith)
 
-module _ (x : Float) where
-  pub weight-finite : (y : Float) → y ≡ x → finite x ≡ true → lt y null ≡ bad_weight (x ∷ []) 0
+  not-there : x ≡ None → finite (double_at l p) ≡ false
+  not-there h = go (finite (double_at l p)) refl (sym e ∙ h)
+    where
+      go : (b : Bool) → finite (double_at l p) ≡ b → cond b (Some (double_at l p)) None ≡ None → finite (double_at l p) ≡ false
+      go true q f = absurd (let z : ◌≡◌ {A = ℕ} 0 1 = cc in omega arith)
+      go false q f = q
+
+  pub weight-some : (y : Float) → x ≡ Some y → lt y null ≡ bad_weight (double_at l p ∷ []) 0
   unfolding bad_weight
-  weight-finite y e h = rw (e, h)
+  weight-some y h = let d = there y h in rw (d.0, d.1)
 
-  pub weight-not : finite x ≡ false → true ≡ bad_weight (x ∷ []) 0
+  pub weight-none : x ≡ None → true ≡ bad_weight (double_at l p ∷ []) 0
   unfolding bad_weight
-  weight-not e = rw e
+  weight-none h = rw (not-there h)
 
-  pub scale-finite : (y : Float) → y ≡ x → finite x ≡ true → not (lt null y) ≡ bad_scale (x ∷ []) 0
+  pub scale-some : (y : Float) → x ≡ Some y → not (lt null y) ≡ bad_scale (double_at l p ∷ []) 0
   unfolding bad_scale
-  scale-finite y e h = rw (e, h)
+  scale-some y h = let d = there y h in rw (d.0, d.1)
 
-  pub scale-not : finite x ≡ false → true ≡ bad_scale (x ∷ []) 0
+  pub scale-none : x ≡ None → true ≡ bad_scale (double_at l p ∷ []) 0
   unfolding bad_scale
-  scale-not e = rw e
+  scale-none h = rw (not-there h)
+
+  pub finite-is : {y : Bool} → y ≡ is_some x → y ≡ finite (double_at l p)
+  finite-is h = h ∙ rw e (go (finite (double_at l p)))
+    where
+      go : (b : Bool) → is_some (cond b (Some (double_at l p)) None) ≡ b
+      go true = refl
+      go false = refl
 
 -- ---- the numbers that are read
 
@@ -177,15 +190,9 @@ pub vector-is : (p : ℕ) (l : List ℕ) {a b d : Bool} → a ≡ finite (double
 unfolding is_finite
 vector-is p l e f g = rw (and_assoc, e, f, g) (sym (one-vector p l))
 
--- properties that agree below n have one lowest place there
-lowest-alike : (p q : ℕ → Bool) (n : ℕ) → ((k : ℕ) → k < n → p k ≡ q k) → lowest p n ≡ lowest q n
-unfolding lowest
-lowest-alike p q zero h = refl
-lowest-alike p q (suc n) h = rw (lowest-alike p q n (λ k l. h k (omega arith)), h n (omega arith))
-
--- the lowest point that is not finite, where each is read by itself
-pub points-apart : (p m : ℕ) (l : List ℕ) → lowest (λ i. bad_vector (points_from (p + 24 * i) 1 l) 0) m ≡ lowest (bad_vector (points_from p m l)) m
-points-apart p m l = lowest-alike _ _ m (λ i h. one-vector (p + 24 * i) l ∙ sym (vector-bad p 24 m i (p + 24 * i) l h refl))
+-- a point by itself, and as one of m
+pub point-is : (p m i : ℕ) (l : List ℕ) {x : Bool} → x ≡ bad_vector (points_from (p + 24 * i) 1 l) 0 → i < m → x ≡ bad_vector (points_from p m l) i
+point-is p m i l e h = e ∙ one-vector (p + 24 * i) l ∙ sym (vector-bad p 24 m i (p + 24 * i) l h refl)
 
 -- a row by itself, and as one of `count`
 row_read : (p count r : ℕ) (l : List ℕ) → r < count → bad_row_from p count l r ≡
@@ -200,16 +207,11 @@ row_read p count r l h =
     (scale-read (p + 40) 48 count r l h ∙ ap (λ t. bad_scale (double_at l t ∷ []) 0) b)
     (vector-bad (p + 8) 48 count r (p + 48 * r + 8) l h (omega arith) ∙ sym (one-vector (p + 48 * r + 8) l))))
 
-pub one-row-is : (p : ℕ) (l : List ℕ) {a b d : Bool} →
-    a ≡ bad_weight (double_at l (p + 32) ∷ []) 0 → b ≡ bad_scale (double_at l (p + 40) ∷ []) 0 → d ≡ bad_vector (points_from (p + 8) 1 l) 0 → (a || b || d) ≡ bad_row_from p 1 l 0
-one-row-is p l e f g =
-    let q : p + 48 * 0 ≡ p = omega arith in
-    rw (e, f, g) (sym (rw q at (row_read p 1 0 l (omega arith))))
-
--- the lowest row outside the domain, where each is read by itself
-pub rows-apart : (p count : ℕ) (l : List ℕ) → lowest (λ r. bad_row_from (p + 48 * r) 1 l 0) count ≡ lowest (bad_row_from p count l) count
-rows-apart p count l = lowest-alike _ _ count (λ r h. sym (one-row-is (p + 48 * r) l refl refl refl) ∙ sym (row_read p count r l h))
+pub row-is : (p count r : ℕ) (l : List ℕ) {a b d : Bool} → r < count →
+    a ≡ bad_weight (double_at l (p + 48 * r + 32) ∷ []) 0 → b ≡ bad_scale (double_at l (p + 48 * r + 40) ∷ []) 0 → d ≡ bad_vector (points_from (p + 48 * r + 8) 1 l) 0 →
+    (a || b || d) ≡ bad_row_from p count l r
+row-is p count r l h e f g = rw (e, f, g) (sym (row_read p count r l h))
 
 -- the running place of a point does not wrap
-pub place-fits : (p : ℕ → Bool) (m : ℕ) {x : Option ℕ} {i : ℕ} (at count n : ℕ) → x ≡ lowest p m → x ≡ Some i → at + 48 * count + 24 * m ≤ n → n < 2 ^ 64 → Fits w64 (count + i)
-place-fits p m at count n e h a b = omega (arith, found_below p m e h)
+pub place-fits : (p : ℕ → Bool) (m : ℕ) {x : Option ℕ} {i : ℕ} (count : ℕ) → x ≡ lowest p m → x ≡ Some i → count + m < 2 ^ 64 → Fits w64 (count + i)
+place-fits p m count e h a = omega (arith, found_below p m e h)

@@ -4,9 +4,9 @@ use mathlib.Core.Path.{◌≡◌, refl}
 use mathlib.Core.List.{List, [], ◌∷◌}
 use lib.ListN.{length}
 use lib.Ieee.{binary64, of_bits, to_bits}
-use Rattle.network.specs.Network.{shape}
+use Rattle.network.specs.Network.{Content, content, shape}
 use Rattle.layout.specs.Bytes.{bytes_of, number_at, run}
-use Rattle.layout.specs.Image.{Content, content, count_bytes, row_bytes, pairs, joined, assembled, image}
+use Rattle.layout.specs.Image.{count_bytes, row_bytes, pairs, joined, assembled, image}
 use Rattle.image.specs.Reading.{offset_at, length_at}
 
 -- 1 camera, 1 point, 1 bearing: camera 0, point 0, ray (0,0,1), weight 1, scale 0.5, old point (5,5,5)

@@ -1,9 +1,9 @@
 -- Laws of an image's head: what each test says, and what the pairs say where 21 passes. Assumes nothing.
 use Rattle.network.specs.declared.Cause.TheVariants.{Head, Pairs}
 use Rattle.std.proofs.Common.{None, Ok, Option, Some}
-use Prim.Native.Nat.{ℕ, zero, suc, ◌+◌, ◌-◌, ◌*◌, ◌≤◌, ◌<◌}
+use Prim.Native.Nat.{ℕ, zero, suc, ◌+◌, ◌-◌, ◌≤◌, ◌<◌}
 use mathlib.Core.Path.{◌≡◌, refl, sym, ap, ap₂, ◌∙◌}
-use mathlib.Core.List.{List, [], ◌∷◌}
+use mathlib.Core.List.{List}
 use mathlib.Core.Bool.{Bool, true, false, cond, not}
 use native.Mathlib.Omega.{arith}
 use native.Mathlib.Numerals.{sub-one}
@@ -119,10 +119,6 @@ unfolding bad_length
 section-first l {x} e n =
     let p = bad_length (sizes (shape_at 36 l)) l in
     sym (lowest-found p 0 4 (lowest-zero p) (ap not (ne_eqb (length_at l 0) 16 (λ q. n (e ∙ q)))) (omega arith))
-
-pub counted-sizes : (l : List ℕ) {x : Option ℕ} {m b e : ℕ} → x ≡ lowest (bad_length (16 ∷ 48 * b ∷ 48 * e ∷ 24 * m ∷ []) l) 4 →
-    m ≡ u32_at l 40 → b ≡ u32_at l 44 → e ≡ u32_at l 48 → x ≡ lowest (bad_length (sizes (shape_at 36 l)) l) 4
-counted-sizes l h e f g = h ∙ rw (e, f, g)
 
 pub head-long : (version k : ℕ) (l : List ℕ) → bad_head version k l ≡ false → (head_size k ≤ length l) × (u16_at l 0 ≡ version) × (u16_at l 2 ≡ k)
 unfolding bad_head

@@ -21,13 +21,13 @@ use Rattle.field.proofs.Buffers.{get-vector}
 use Rattle.network.specs.Refusals.{Verdict}
 use Rattle.network.specs.declared.Refusal.{Refusal}
 use Rattle.network.specs.declared.Shape.{Shape}
-use Rattle.network.specs.Network.{rows}
+use Rattle.network.specs.Network.{Content, content, rows}
 use Rattle.network.specs.Refusals.{verdict, count_tests, length_tests, content_fits as fits, end_tests, domain_tests, bad_weight, bad_scale, bad_vector}
 use Rattle.network.specs.inner.Sound.{ShapeSound, ContentLengths}
-use Rattle.network.proofs.Verdicts.{verdict-one, first-passed, stage-passed, test-passed, test-at-passed}
+use Rattle.network.proofs.Verdicts.{halts-in, passes-in, verdict-one, first-passed, stage-passed, test-passed, test-at-passed}
 use Rattle.network.proofs.Sound.{counts-sound, lengths-fit, content-fits, domain-sound, row-domain, weight-domain, scale-domain, vector-domain}
 use Rattle.layout.specs.Bytes.{AreBytes, AreDoubles}
-use Rattle.layout.specs.Image.{Content, content, sizes, image}
+use Rattle.layout.specs.Image.{sizes, image}
 use Rattle.layout.proofs.Runs.{length-image}
 use Rattle.layout.proofs.Stores.{image-front}
 use Rattle.image.specs.Reading.{length_at, shape_at, rays_from, weights_from, scales_from, points_from, content_from, content_of}
@@ -169,6 +169,17 @@ module _ (l es : List ℕ) (rs ws ss ps : List Float) {x : Verdict} (e : x ≡ r
         bytes = b;
       }
 
+-- a read's two calls: those of the image, and those of what it holds
+module _ (l es : List ℕ) (rs ws ss ps : List Float) {x : Verdict} (e : x ≡ verdict (image_tests l)) where
+  pub image-refused : {r : Refusal} → x ≡ Err r → Err r ≡ read_verdict l (lists es rs ws ss ps)
+  unfolding read_verdict read_tests
+  image-refused h = halts-in (image_tests l) _ e h
+
+  pub read-is : {y : Verdict} {s : Shape} → x ≡ Ok tt → s ≡ shape_at 36 l →
+      y ≡ verdict (count_tests s ++ (length_tests (fits s es rs ws ss ps) ++ row_tests (content_from 52 s l))) → y ≡ read_verdict l (lists es rs ws ss ps)
+  unfolding read_verdict read_tests
+  read-is h k f = passes-in (image_tests l) _ e h (shaped-is l es rs ws ss ps f k)
+
 -- a function that stores what was read
 module _ (l es : List ℕ) (rs ws ss ps : List Float) {s : Shape} (R : ReadSound l (lists es rs ws ss ps)) (k : s ≡ shape_at 36 l) where
   pub read-readable : ContentReadable 52 s l
@@ -179,9 +190,9 @@ module _ (l es : List ℕ) (rs ws ss ps : List Float) {s : Shape} (R : ReadSound
 
 -- ---- 23
 
-pub room-is : (s : Shape) (es : List ℕ) (rs ws ss ps : List Float) (room : ℕ) {n : ℕ} {x : Verdict} → x ≡ verdict (room_tests room n) → n ≡ 52 + 48 * rows s + 24 * s.points →
-    x ≡ verdict (room_tests room (length (image (content s es rs ws ss ps))))
-room-is s es rs ws ss ps room e h = e ∙ ap (λ t. verdict (room_tests room t)) (h ∙ sym (length-image (content s es rs ws ss ps)))
+pub room-is : (c : Content) (room : ℕ) {n : ℕ} {x : Verdict} → x ≡ verdict (room_tests room n) → n ≡ 52 + 48 * rows c.shape + 24 * c.shape.points →
+    x ≡ verdict (room_tests room (length (image c)))
+room-is c room e h = e ∙ ap (λ t. verdict (room_tests room t)) (h ∙ sym (length-image c))
 
 pub room-enough : (room needed : ℕ) → verdict (room_tests room needed) ≡ Ok tt → needed ≤ room
 unfolding room_tests shorter
@@ -205,30 +216,29 @@ write-sound c room e =
     let f = stage-passed (domain_tests (content_sections c)) _ d.1 in
     record { counts = a.0; shape = counts-sound _ a.0; fit = lengths-fit _ b.0; ends = d.0; domain = f.0; room = room-enough _ _ f.1 }
 
-module _ (s : Shape) (es : List ℕ) (rs ws ss ps : List Float) (held : List ℕ) {x : Verdict} (e : x ≡ verdict (write_tests (content s es rs ws ss ps) (length held))) where
-  pub write-refused : {r : Refusal} → x ≡ Err r → HoldsDoubles (content s es rs ws ss ps) → Writes (content s es rs ws ss ps) held (Err r) held
+module _ (c : Content) (held : List ℕ) {x : Verdict} (e : x ≡ verdict (write_tests c (length held))) where
+  pub write-refused : {r : Refusal} → x ≡ Err r → HoldsDoubles c → Writes c held (Err r) held
   unfolding write_verdict written_if after
   write-refused {r} h d =
-      let v : verdict (write_tests (content s es rs ws ss ps) (length held)) ≡ Err r = sym e ∙ h in
+      let v : verdict (write_tests c (length held)) ≡ Err r = sym e ∙ h in
       record { answer = rw v; out = rw v; doubles = d }
 
   module _ (h : x ≡ Ok tt) where
-    written : WriteSound (content s es rs ws ss ps) (length held)
+    written : WriteSound c (length held)
     written = write-sound _ _ (sym e ∙ h)
 
-    pub write_shape : ShapeSound s
+    pub write_shape : ShapeSound c.shape
     write_shape = written.shape
 
-    pub write-lengths : ContentLengths s es rs ws ss ps
+    pub write-lengths : ContentLengths c.shape c.ends c.rays c.weights c.scales c.positions
     write-lengths = content-fits _ _ _ _ _ _ written.fit
 
-    pub write-room : 52 + 48 * rows s + 24 * s.points ≤ length held
-    write-room = omega (arith, length-image (content s es rs ws ss ps), written.room)
+    pub write-room : 52 + 48 * rows c.shape + 24 * c.shape.points ≤ length held
+    write-room = omega (arith, length-image c, written.room)
 
-    pub write-passed : (m : List ℕ) {k : ℕ} → m ≡ write held 0 (image (content s es rs ws ss ps)) → k ≡ 52 + 48 * rows s + 24 * s.points → HoldsDoubles (content s es rs ws ss ps) →
-        Writes (content s es rs ws ss ps) held (Ok k) m
+    pub write-passed : (m : List ℕ) {k : ℕ} → m ≡ write held 0 (image c) → k ≡ 52 + 48 * rows c.shape + 24 * c.shape.points → HoldsDoubles c →
+        Writes c held (Ok k) m
     unfolding write_verdict written_if after
     write-passed m f g d =
-        let c = content s es rs ws ss ps in
         let v : verdict (write_tests c (length held)) ≡ (Ok tt) = sym e ∙ h in
         record { answer = rw v (ap Ok (g ∙ sym (length-image c))); out = rw v (image-front c held m f written.room); doubles = d }

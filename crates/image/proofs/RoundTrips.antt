@@ -11,11 +11,11 @@ use lib.Ieee.{Float, nan, inf, fin, is_nan}
 use lib.Ieee.Scale.{finite}
 use Rattle.field.specs.Buffer.{part}
 use Rattle.field.proofs.Counting.{field-ext, field-get_or}
-use Rattle.network.specs.Network.{rows}
+use Rattle.network.specs.Network.{Content, rows}
 use Rattle.network.specs.declared.Shape.{Shape}
 use Rattle.network.specs.inner.Sound.{ShapeSound, ContentLengths}
 use Rattle.layout.specs.Bytes.{AreBytes, AreDoubles, bytes_of, u32_at, double_bytes, run, wholes, doubles}
-use Rattle.layout.specs.Image.{Content, head, count_bytes, row_bytes, row_of, sections, sizes, assembled, image}
+use Rattle.layout.specs.Image.{head, count_bytes, row_bytes, row_of, sections, sizes, assembled, image}
 use Rattle.layout.proofs.Numbers.{length-bytes, bytes-number, number-bytes, double-bytes, bytes-double}
 use Rattle.layout.proofs.Runs.{part-add, part_left, part_right, run-ext, part-run, part-piece, run-parts, length-wholes, length-doubles}
 use Rattle.layout.proofs.Runs.{length-row, length-counts, length-rows, rest, image-parts, length-head, length-image}

@@ -17,13 +17,13 @@ use Rattle.field.specs.Count.{lowest}
 use Rattle.field.proofs.Counting.{lowest-none}
 use Rattle.network.specs.Refusals.{Verdict}
 use Rattle.network.specs.declared.Shape.{Shape}
-use Rattle.network.specs.Network.{rows}
+use Rattle.network.specs.Network.{Content, rows}
 use Rattle.network.specs.Refusals.{verdict, count_tests, length_tests, ends_fit, rays_fit, vectors_fit, content_fits as fits, end_tests, domain_tests}
 use Rattle.network.specs.inner.Sound.{ContentLengths, EndsSound}
 use Rattle.network.proofs.Verdicts.{verdict-append, verdict-one, passes-in, stage-passed, both-passed, passed-test, passed-test-at}
 use Rattle.network.proofs.Sound.{content-fits, ends-sound}
 use Rattle.layout.specs.Bytes.{AreBytes, total}
-use Rattle.layout.specs.Image.{Content, sections, head_size, sizes, image}
+use Rattle.layout.specs.Image.{sections, head_size, sizes, image}
 use Rattle.layout.proofs.Runs.{section-lengths}
 use Rattle.image.specs.Reading.{shape_at, content_from, content_of}
 use Rattle.image.specs.Tests.{bad_length, image_tests, content_fits, content_sections, row_tests, room_tests, read_tests, write_tests}

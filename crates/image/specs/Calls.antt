@@ -6,7 +6,8 @@ use Rattle.network.specs.Refusals.{Verdict}
 use Rattle.network.specs.declared.Shape.{Shape}
 use Rattle.network.specs.Refusals.{verdict}
 use Rattle.layout.specs.Bytes.{AreBytes, AreDoubles}
-use Rattle.layout.specs.Image.{Content, content, image}
+use Rattle.network.specs.Network.{Content, content}
+use Rattle.layout.specs.Image.{image}
 use Rattle.image.specs.Reading.{shape_at, content_of}
 use Rattle.image.specs.Tests.{content_fits, counts_tests, read_tests, write_tests}
 

@@ -1,10 +1,10 @@
 -- What stands in an image (document 01, 'Network image').
 use Rattle.std.specs.Prelude.{ℕ, zero, suc, ◌+◌, ◌*◌, ◌/◌, ◌%◌, List, Float}
 use Rattle.field.specs.Count.{field}
-use Rattle.network.specs.Network.{shape, rows}
+use Rattle.network.specs.Network.{Content, content, shape, rows}
 use Rattle.network.specs.declared.Shape.{Shape}
 use Rattle.layout.specs.Bytes.{u32_at, double_at}
-use Rattle.layout.specs.Image.{Content, content, head_size}
+use Rattle.layout.specs.Image.{head_size}
 
 -- offset and length of pair i
 abbrev pub offset_at : List ℕ → ℕ → ℕ

@@ -5,7 +5,7 @@ use Rattle.network.specs.declared.Refusal.{Refusal}
 use Rattle.std.specs.Prelude.{ℕ, ◌≡◌, List, ◌++◌, length, take, drop}
 use Rattle.network.specs.declared.Shape.{Shape}
 use Rattle.network.specs.Refusals.{verdict, length_tests}
-use Rattle.layout.specs.Image.{Content}
+use Rattle.network.specs.Network.{Content}
 use Rattle.image.specs.Tests.{content_fits, room_tests}
 use Rattle.image.specs.Calls.{counts_if, written_if, after, Lists, content_with, Stored, Reads, Writes}
 

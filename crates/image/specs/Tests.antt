@@ -7,7 +7,8 @@ use Rattle.field.specs.Count.{lowest}
 use Rattle.network.specs.Refusals.{Verdict}
 use Rattle.network.specs.Refusals.{test, test_at, Section, count_tests, content_fits as fits, length_tests, end_tests, row_sections, domain_tests}
 use Rattle.layout.specs.Bytes.{u16_at}
-use Rattle.layout.specs.Image.{Content, head_size, sizes, image}
+use Rattle.network.specs.Network.{Content}
+use Rattle.layout.specs.Image.{head_size, sizes, image}
 use Rattle.image.specs.Reading.{offset_at, length_at, start_of, shape_at, content_of}
 
 -- ---- 20 to 22: any version with its number of sections

@@ -1,4 +1,5 @@
 // The numbers of an image that passed its tests, stored.
+// By bytes and places, not by `ImageRows`: one loop reads rays, weights, scales and points, which differ in start, stride and group alone.
 ghost use Rattle.std.specs.Prelude.{◌≡◌, true, ◌+◌, ◌*◌, ◌≤◌, ◌<◌, length};
 ghost use Rattle.std.specs.Float.Ieee.Scale.{finite};
 ghost use Rattle.layout.specs.Bytes.{double_at};
@@ -6,8 +7,7 @@ ghost use Rattle.network.specs.inner.Sound.{ContentLengths};
 ghost use Rattle.image.specs.Reading.{wholes_from, doubles_from};
 ghost use Rattle.image.specs.inner.Sound.{Readable, ContentReadable, ContentFilled};
 
-use crate::rows::double_at;
-use double::Decoded;
+use crate::rows::finite_at;
 use layout::bytes::u32_at;
 use network::Shape;
 
@@ -17,11 +17,7 @@ fn value_at(bytes: &[u8], p: usize) -> f64
     requires p_value { finite (double_at bytes.now p) ≡ true }
     ensures { result ≡ double_at bytes.now p }
 {
-    match double_at(bytes, p) {
-        Decoded::Finite(x) => x,
-        Decoded::Infinite(_) => 0.0,
-        Decoded::NotANumber => 0.0,
-    }
+    finite_at(bytes, p).unwrap_or(0.0)
 }
 
 // The ends, two to a row of 48 bytes.
@@ -45,21 +41,6 @@ fn fill_doubles(bytes: &[u8], start: usize, stride: usize, group: usize, out: &m
     }
 }
 
-// Rays, weights and scales of the rows from `at` on.
-fn fill_rows(bytes: &[u8], at: usize, rays: &mut [f64], weights: &mut [f64], scales: &mut [f64])
-    requires at_in_bounds { at ≤ length bytes.now }
-    requires rays_readable { Readable (at + 8) 48 3 (length rays.old) bytes.now }
-    requires weights_readable { Readable (at + 32) 48 1 (length weights.old) bytes.now }
-    requires scales_readable { Readable (at + 40) 48 1 (length scales.old) bytes.now }
-    ensures rays_after { rays.new ≡ doubles_from (at + 8) 48 3 (length rays.old) bytes.now }
-    ensures weights_after { weights.new ≡ doubles_from (at + 32) 48 1 (length weights.old) bytes.now }
-    ensures scales_after { scales.new ≡ doubles_from (at + 40) 48 1 (length scales.old) bytes.now }
-{
-    fill_doubles(bytes, at + 8, 48, 3, rays);
-    fill_doubles(bytes, at + 32, 48, 1, weights);
-    fill_doubles(bytes, at + 40, 48, 1, scales);
-}
-
 // Everything of the rows from `at` on, in a network of shape s, and of the points behind them.
 pub(crate) fn fill(
     bytes: &[u8],
@@ -78,6 +59,8 @@ pub(crate) fn fill(
 {
     let behind = at + 48 * (s.bearings + s.directions);
     fill_ends(bytes, at, ends);
-    fill_rows(bytes, at, rays, weights, scales);
+    fill_doubles(bytes, at + 8, 48, 3, rays);
+    fill_doubles(bytes, at + 32, 48, 1, weights);
+    fill_doubles(bytes, at + 40, 48, 1, scales);
     fill_doubles(bytes, behind, 24, 3, points);
 }

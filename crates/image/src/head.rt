@@ -1,14 +1,17 @@
 // 20 to 22: the head of an image.
+// Bytes and count are no type: its model, `new` and two reads, each with a contract, would be longer than the clauses that say that the pairs are there.
 ghost use Rattle.std.specs.Prelude.{None, ◌≡◌, ◌+◌, ◌*◌, ◌≤◌, ◌<◌, length};
 ghost use Rattle.field.specs.Count.{lowest};
+ghost use Rattle.network.specs.Network.{rows};
 ghost use Rattle.network.specs.Refusals.{verdict};
 ghost use Rattle.layout.specs.Image.{head_size, sizes as sizes_of};
 ghost use Rattle.image.specs.Reading.{offset_at, length_at, start_of, shape_at};
 ghost use Rattle.image.specs.Tests.{bad_head, bad_offset, bad_pair, bad_length, image_tests};
 
 use layout::bytes::{u16_at, u32_at};
+use layout::put::sizes;
 use network::answers::{refused_at, refused_if};
-use network::{Cause, Refusal};
+use network::{Cause, Refusal, Shape};
 
 // 20: of an image of k sections.
 fn bad_head(bytes: &[u8], version: usize, k: usize) -> bool
@@ -24,18 +27,14 @@ fn bad_head(bytes: &[u8], version: usize, k: usize) -> bool
     u16_at(bytes, 2) != k
 }
 
-fn offset_at(bytes: &[u8], i: usize) -> usize
+// Offset and length of pair i.
+fn pair_at(bytes: &[u8], i: usize) -> (usize, usize)
     requires { head_size (i + 1) ≤ length bytes.now }
-    ensures { (result ≡ offset_at bytes.now i) × (result < 0x1_0000_0000) }
+    ensures offset { (result.0 ≡ offset_at bytes.now i) × (result.0 < 0x1_0000_0000) }
+    ensures length { (result.1 ≡ length_at bytes.now i) × (result.1 < 0x1_0000_0000) }
 {
-    u32_at(bytes, 4 + 8 * i)
-}
-
-fn length_at(bytes: &[u8], i: usize) -> usize
-    requires { head_size (i + 1) ≤ length bytes.now }
-    ensures { (result ≡ length_at bytes.now i) × (result < 0x1_0000_0000) }
-{
-    u32_at(bytes, 8 + 8 * i)
+    let p = 4 + 8 * i;
+    (u32_at(bytes, p), u32_at(bytes, p + 4))
 }
 
 // Of k sections, where section i must start.
@@ -47,7 +46,8 @@ fn start_of(bytes: &[u8], k: usize, i: usize) -> usize
     if i == 0 {
         return 4 + 8 * k;
     }
-    offset_at(bytes, i - 1) + length_at(bytes, i - 1)
+    let (offset, length) = pair_at(bytes, i - 1);
+    offset + length
 }
 
 fn bad_offset_at(bytes: &[u8], k: usize, i: usize) -> bool
@@ -55,7 +55,8 @@ fn bad_offset_at(bytes: &[u8], k: usize, i: usize) -> bool
     requires i_lt_k { i < k }
     ensures { result ≡ bad_offset k bytes.now i }
 {
-    offset_at(bytes, i) != start_of(bytes, k, i)
+    let (offset, _) = pair_at(bytes, i);
+    offset != start_of(bytes, k, i)
 }
 
 // The first of k pairs whose offset is not where the one before ended.
@@ -87,7 +88,8 @@ fn bad_length_at(bytes: &[u8], sizes: &[usize], i: usize) -> bool
     requires i_in_bounds { i < length sizes.now }
     ensures { result ≡ bad_length sizes.now bytes.now i }
 {
-    length_at(bytes, i) != sizes[i]
+    let (_, length) = pair_at(bytes, i);
+    length != sizes[i]
 }
 
 // The first section whose length differs from what it must be.
@@ -98,16 +100,26 @@ fn find_length(bytes: &[u8], sizes: &[usize]) -> Option<usize>
     (0..sizes.len()).find(|&i| bad_length_at(bytes, sizes, i))
 }
 
+// The counts that stand at p.
+pub(crate) fn shape_at(bytes: &[u8], p: usize) -> Shape
+    requires { p + 16 ≤ length bytes.now }
+    ensures value { result ≡ shape_at p bytes.now }
+    ensures small { 48 * rows result + 24 * result.points < 0x1_0000_0000_0000_0000 }
+{
+    Shape {
+        cameras: u32_at(bytes, p),
+        points: u32_at(bytes, p + 4),
+        bearings: u32_at(bytes, p + 8),
+        directions: u32_at(bytes, p + 12),
+    }
+}
+
 // The first section whose length differs from what the counts say.
 fn find_counted_length(bytes: &[u8]) -> Option<usize>
     requires { 52 ≤ length bytes.now }
     ensures { result ≡ lowest (bad_length (sizes_of (shape_at 36 bytes.now)) bytes.now) 4 }
 {
-    let m = u32_at(bytes, 40);
-    let b = u32_at(bytes, 44);
-    let e = u32_at(bytes, 48);
-    let sizes = [16, 48 * b, 48 * e, 24 * m];
-    find_length(bytes, &sizes)
+    find_length(bytes, &sizes(shape_at(bytes, 36)))
 }
 
 // 22.
@@ -116,7 +128,8 @@ fn find_section(bytes: &[u8]) -> Option<usize>
     requires bytes_value { bad_pair 4 bytes.now ≡ None }
     ensures { result ≡ lowest (bad_length (sizes_of (shape_at 36 bytes.now)) bytes.now) 4 }
 {
-    if length_at(bytes, 0) != 16 {
+    let (_, length) = pair_at(bytes, 0);
+    if length != 16 {
         return Some(0);
     }
     find_counted_length(bytes)

@@ -3,14 +3,24 @@ ghost use Rattle.std.specs.Prelude.{◌≡◌, ◌++◌, ◌+◌, ◌*◌, lengt
 ghost use Rattle.network.specs.Network.{rows};
 ghost use Rattle.network.specs.Refusals.{verdict, end_tests, row_sections, domain_tests};
 ghost use Rattle.network.specs.inner.Sound.{ShapeSound, ContentLengths};
-ghost use Rattle.layout.specs.Image.{content, image};
+ghost use Rattle.layout.specs.Bytes.{AreDoubles};
+ghost use Rattle.layout.specs.Image.{image};
 ghost use Rattle.image.specs.Tests.{shorter, room_tests, write_tests};
 
 use network::answers::refused_at;
 use network::domain::check_domain;
 use network::ends::check_ends;
 use network::lengths::{check_lengths, content_fits};
+use network::lent::Content;
 use network::{Cause, Refusal, Shape, check_counts};
+
+// The numbers are doubles, as in every slice of f64; that is told of a slice that is an argument, not of a struct's field.
+pub(crate) fn are_doubles(rays: &[f64], weights: &[f64], scales: &[f64], points: &[f64])
+    ensures rays { AreDoubles rays.now }
+    ensures weights { AreDoubles weights.now }
+    ensures scales { AreDoubles scales.now }
+    ensures points { AreDoubles points.now }
+{}
 
 // The bytes of the image of a network of shape s.
 pub(crate) fn image_size(s: Shape) -> usize
@@ -35,42 +45,25 @@ fn check_room(room: usize, needed: usize) -> Result<(), Refusal>
 }
 
 // 4, 5 and 7, then 23.
-fn check_rows_and_room(
-    s: Shape,
-    ends: &[usize],
-    rays: &[f64],
-    weights: &[f64],
-    scales: &[f64],
-    points: &[f64],
-    room: usize,
-) -> Result<(), Refusal>
-    requires shape_sound { ShapeSound s }
-    requires content_lengths { ContentLengths s ends.now rays.now weights.now scales.now points.now }
-    ensures { result ≡ verdict (end_tests s ends.now
-        ++ (domain_tests (row_sections s rays.now weights.now scales.now points.now)
-        ++ room_tests room (length (image (content s
-        ends.now rays.now weights.now scales.now points.now))))) }
+fn check_rows_and_room(c: &Content<'_>, room: usize) -> Result<(), Refusal>
+    requires shape_sound { ShapeSound c.now.shape }
+    requires content_lengths { let n = c.now in ContentLengths n.shape n.ends n.rays n.weights n.scales n.positions }
+    ensures { let n = c.now in
+        result ≡ verdict (end_tests n.shape n.ends
+        ++ (domain_tests (row_sections n.shape n.rays n.weights n.scales n.positions)
+        ++ room_tests room (length (image n)))) }
 {
-    check_ends(s, ends)?;
-    check_domain(s, rays, weights, scales, points)?;
+    let s = c.shape();
+    check_ends(s, c.ends)?;
+    check_domain(c)?;
     check_room(room, image_size(s))
 }
 
 // 1 to 5 and 7, then 23.
-pub(crate) fn check_write(
-    s: Shape,
-    ends: &[usize],
-    rays: &[f64],
-    weights: &[f64],
-    scales: &[f64],
-    points: &[f64],
-    room: usize,
-) -> Result<(), Refusal>
-    ensures { result ≡ verdict (write_tests
-        (content s ends.now rays.now weights.now scales.now points.now)
-        room) }
+pub(crate) fn check_write(c: &Content<'_>, room: usize) -> Result<(), Refusal>
+    ensures { result ≡ verdict (write_tests c.now room) }
 {
-    check_counts(s)?;
-    check_lengths(content_fits(s, ends, rays, weights, scales, points))?;
-    check_rows_and_room(s, ends, rays, weights, scales, points, room)
+    check_counts(c.shape())?;
+    check_lengths(content_fits(c))?;
+    check_rows_and_room(c, room)
 }

@@ -23,6 +23,7 @@ use Rattle.system.specs.declared.CameraTerm.{CameraTerm}
 use Rattle.iterative.specs.Method.{preconditioned_entry}
 use Rattle.iterative.specs.Opening.{CamerasFormed, Each, Opened, Segment, StartFormed, filled, segments_of, start_segments}
 use Rattle.iterative.specs.Problem.{dot_step, field_dot, times}
+use Rattle.iterative.specs.declared.Frame.{Frame}
 use Rattle.iterative.specs.Reduced.{right_entry}
 use Rattle.iterative.specs.inner.Solver.{FieldsFit, Outside, TurnOpened, diagonal_in, preconditioned_in, put_each, right_in}
 
@@ -175,7 +176,7 @@ module _ (s : Shape) (a : ℕ) (l : List Float) where
         go true = refl
         go false = refl
 
-    pub opened-more : (m' : List Float) (v' w' : Vec3) → TurnOpened s a k v w m m' v' w' → Opened s a (k + 1) l m' v' w'
+    pub opened-more : (m' : List Float) (v' w' : Vec3) → TurnOpened (record { shape = s; anchor = a }) k v w m m' v' w' → Opened s a (k + 1) l m' v' w'
     unfolding field_dot dot_step
     opened-more m' v' w' T = record {
       buffer = T.put ∙ rw (right_kept, preconditioned-kept, O.buffer) (filled_more n k c (positions_at s) _ (weights_at s) spaced l);
@@ -194,11 +195,11 @@ pub put-started : (s : Shape) (i p q r t u : ℕ) (o b z : Vec3) (l l1 l2 l3 l4 
     l5 ≡ put_each (start_segments s (λ j. b) (λ j. z)) i l
 put-started s i p q r t u o b z l l1 l2 l3 l4 l5 R ep eq er et eu eo f1 f2 f3 f4 f5 = f5 ∙ rw (f4, f3, f2, f1, ep, eq, er, et, eu, eo)
 
-module _ (s : Shape) (a i : ℕ) (l l' : List Float) (v w : Vec3) where
-  pub turn-anchor : (b z : Vec3) → eqb i a ≡ true → b ≡ origin → z ≡ origin → l' ≡ put_each (start_segments s (λ j. b) (λ j. z)) i l → TurnOpened s a i v w l l' v w
+module _ (f : Frame) (i : ℕ) (l l' : List Float) (v w : Vec3) where
+  pub turn-anchor : (b z : Vec3) → eqb i f.anchor ≡ true → b ≡ origin → z ≡ origin → l' ≡ put_each (start_segments f.shape (λ j. b) (λ j. z)) i l → TurnOpened f i v w l l' v w
   turn-anchor b z h eb ez e = record { put = rw h (rw (eb, ez) at e); sums = rw h; old = rw h }
 
-  pub turn-other : (t : CameraTerm) (d : Float) (z v' w' : Vec3) → eqb i a ≡ false → t ≡ get term l (term_place i) → d ≡ diagonal_in l i → z ≡ over t.right d →
-      l' ≡ put_each (start_segments s (λ j. t.right) (λ j. z)) i l → v' ≡ plus v (times t.right t.right) → w' ≡ plus w (times t.right z) →
-      TurnOpened s a i v w l l' v' w'
+  pub turn-other : (t : CameraTerm) (d : Float) (z v' w' : Vec3) → eqb i f.anchor ≡ false → t ≡ get term l (term_place i) → d ≡ diagonal_in l i → z ≡ over t.right d →
+      l' ≡ put_each (start_segments f.shape (λ j. t.right) (λ j. z)) i l → v' ≡ plus v (times t.right t.right) → w' ≡ plus w (times t.right z) →
+      TurnOpened f i v w l l' v' w'
   turn-other t d z v' w' h et ed ez e ev ew = record { put = rw h (rw (ez, ed, et) at e); sums = rw h (rw et at ev); old = rw h (rw (ez, ed, et) at ew) }

@@ -29,20 +29,27 @@ use Rattle.iterative.specs.Method.{State, any, bad_curvature, bad_product, bound
 use Rattle.iterative.specs.Method.{search_field, square_sum, stays_active, stepped_field}
 use Rattle.iterative.specs.Problem.{field_dot}
 use Rattle.iterative.specs.declared.Active.{Active}
+use Rattle.iterative.specs.declared.Frame.{Frame}
 use Rattle.iterative.specs.declared.Round.{Round}
-use Rattle.iterative.specs.declared.Step.{Step}
-use Rattle.iterative.specs.declared.Step.TheVariants.{Ended, Running}
+use Rattle.std.specs.declared.ops.ControlFlow.TheVariants.{Break, Continue}
+use Rattle.iterative.specs.inner.Solver.{Step}
 use Rattle.iterative.specs.inner.Solver.{FieldStepped, FieldsFit, MovedAlong, Preconditioned, Ran, Rounded, SystemKept}
-use Rattle.iterative.specs.inner.Solver.{continued_by, problem_in, redirected_by, right_sums}
+use Rattle.iterative.specs.inner.Solver.{continued_by, frame_of, problem_in, redirected_by, reduced_system, right_sums}
 use Rattle.iterative.specs.inner.Solver.{stepped_by}
 
-module _ (s : Shape) (a : ℕ) (l : List Float) (R : FieldsFit s (length l)) where
+module _ (f : Frame) (l : List Float) (R : FieldsFit f.shape (length l)) where
+  abbrev s : Shape
+  s = f.shape
+
+  abbrev a : ℕ
+  a = f.anchor
+
   abbrev n : ℕ
   n = s.cameras
 
   -- ---- the new search vector
 
-  module _ (r : Round) (new : Vec3) (l1 : List Float) (from at : ℕ) (ef : from ≡ residual_at s) (ea : at ≡ preconditioned_at s) (D : Preconditioned s a from at l l1 new) where
+  module _ (r : Round) (new : Vec3) (l1 : List Float) (from at : ℕ) (ef : from ≡ residual_at s) (ea : at ≡ preconditioned_at s) (D : Preconditioned f from at l l1 new) where
     abbrev z : List Vec3
     z = preconditioned n a (diagonal_of (load term l 0 n)) (load vector l (residual_at s) n)
 
@@ -59,13 +66,13 @@ module _ (s : Shape) (a : ℕ) (l : List Float) (R : FieldsFit s (length l)) whe
     kept-z = kept_store s l _ z l1 stored-z size-z (omega arith) (omega arith) (inr (omega arith))
 
     pub redirect-failed : (p : Option ℕ) {v : Verdict} {q : Refusal} → p ≡ component (bad_product r.active r.old new) → v ≡ test_at Product p → v ≡ Err q →
-        Ran s (redirected_by s a l r) l l1 (Err q)
+        Ran s (redirected_by f l r) l l1 (Err q)
     redirect-failed p e t h = record { run = λ op. rw (← new_is, ← e) (sym (unless-refused p Product _ t h)); kept = kept-z }
 
     pub redirect-running : (p : Option ℕ) (beta : Vec3) (into : ℕ) (l2 : List Float) → p ≡ component (bad_product r.active r.old new) → p ≡ None → into ≡ search_at s →
         beta ≡ quotient new r.old →
         l2 ≡ store vector l1 into (search_field n r.active beta (load vector l1 at n) (load vector l1 into n)) →
-        Ran s (redirected_by s a l r) l l2 (Ok (Running (record { old = new; active = r.active; count = r.count })))
+        Ran s (redirected_by f l r) l l2 (Ok (Continue (record { old = new; active = r.active; count = r.count })))
     unfolding redirected
     redirect-running p beta into l2 e' h ei eb e4 =
         let q = search_field n r.active beta (load vector l1 (preconditioned_at s) n) (load vector l1 (search_at s) n) in
@@ -86,19 +93,19 @@ module _ (s : Shape) (a : ℕ) (l : List Float) (R : FieldsFit s (length l)) whe
 
   -- ---- on, where a component is active
 
-  pub continue-running : (r : Round) (b : Bool) (l1 : List Float) (t : Result Step Refusal) → b ≡ any r.active → b ≡ true → Ran s (redirected_by s a l r) l l1 t → Ran s (continued_by s a l r) l l1 t
+  pub continue-running : (r : Round) (b : Bool) (l1 : List Float) (t : Result Step Refusal) → b ≡ any r.active → b ≡ true → Ran s (redirected_by f l r) l l1 t → Ran s (continued_by f l r) l l1 t
   continue-running r b l1 t e h D = let q : any r.active ≡ true = sym e ∙ h in record { run = λ op. rw q (D.run op); kept = D.kept }
 
-  pub continue-ended : (r : Round) (b : Bool) → b ≡ any r.active → b ≡ false → Ran s (continued_by s a l r) l l (Ok (Ended r))
+  pub continue-ended : (r : Round) (b : Bool) → b ≡ any r.active → b ≡ false → Ran s (continued_by f l r) l l (Ok (Break r))
   continue-ended r b e h = let q : any r.active ≡ false = sym e ∙ h in record { run = λ op. rw q; kept = kept_same s l }
 
   -- ---- the step along the search vector
 
   pub moved-done : (r : Round) (curvature alpha bound sums v : Vec3) (active : Active) (p q p' q' : ℕ) (l1 l2 : List Float) →
       alpha ≡ quotient r.old curvature → p ≡ positions_at s → q ≡ search_at s → p' ≡ residual_at s → q' ≡ applied_at s →
-      FieldStepped s a (add binary64) r.active alpha p q l l1 v → FieldStepped s a (sub binary64) r.active alpha p' q' l1 l2 sums →
-      active ≡ stays_active bound r.active sums → bound ≡ bound_of (right_sums s a l) →
-      MovedAlong s a r curvature l l2 (record { old = r.old; active = active; count = r.count + 1 })
+      FieldStepped f (add binary64) r.active alpha p q l l1 v → FieldStepped f (sub binary64) r.active alpha p' q' l1 l2 sums →
+      active ≡ stays_active bound r.active sums → bound ≡ bound_of (right_sums f l) →
+      MovedAlong f r curvature l l2 (record { old = r.old; active = active; count = r.count + 1 })
   unfolding moved square_sum
   moved-done r curvature alpha bound sums v active p q p' q' l1 l2 e1 ep eq ep' eq' D D' ea eb =
       let x = stepped_field n a (add binary64) r.active alpha (load vector l (positions_at s) n) (load vector l (search_at s) n) in
@@ -127,10 +134,10 @@ module _ (s : Shape) (a : ℕ) (l : List Float) (R : FieldsFit s (length l)) whe
     curvature-is : curvature ≡ field_dot n a (load vector l (search_at s) n) (load vector l (applied_at s) n)
     curvature-is = rw (ep, eq) at e0
 
-    pub step-failed : {v : Verdict} {q : Refusal} → v ≡ test_at Curvature place → v ≡ Err q → Ran s (stepped_by s a l r) l l (Err q)
+    pub step-failed : {v : Verdict} {q : Refusal} → v ≡ test_at Curvature place → v ≡ Err q → Ran s (stepped_by f l r) l l (Err q)
     step-failed t h = record { run = λ op. rw (← curvature-is, ← ec) (sym (unless-refused place Curvature _ t h)); kept = kept_same s l }
 
-    pub step-done : (l1 l2 : List Float) (t : Round) (x : Result Step Refusal) → place ≡ None → MovedAlong s a r curvature l l1 t → Ran s (continued_by s a l1 t) l1 l2 x → Ran s (stepped_by s a l r) l l2 x
+    pub step-done : (l1 l2 : List Float) (t : Round) (x : Result Step Refusal) → place ≡ None → MovedAlong f r curvature l l1 t → Ran s (continued_by f l1 t) l1 l2 x → Ran s (stepped_by f l r) l l2 x
     step-done l1 l2 t x h M C =
         let w : component (bad_curvature r.active r.old curvature) ≡ None = sym ec ∙ h in
         record {
@@ -140,35 +147,35 @@ module _ (s : Shape) (a : ℕ) (l : List Float) (R : FieldsFit s (length l)) whe
 
 -- ---- the whole round
 
--- z and b are the shape and the anchor as they were read
+-- z and f are the shape and the frame as they were read
 module _ (L : Links) (z : Shape) (ez : z ≡ L.shape) (a from into : ℕ) (l l1 : List Float) (ef : from ≡ search_at z) (ei : into ≡ applied_at z)
     (e : l1 ≡ reduced_in L a from into l) where
-  abbrev s : Shape
-  s = L.shape
+  abbrev own : Frame
+  own = frame_of (reduced_system L a)
 
   abbrev w : List Vec3
-  w = reduced_by L (weights_in s l) a (load vector l (search_at s) s.cameras)
+  w = reduced_by L (weights_in own.shape l) a (load vector l (search_at own.shape) own.shape.cameras)
 
-  stored : l1 ≡ store vector l (applied_at s) w
+  stored : l1 ≡ store vector l (applied_at own.shape) w
   stored = rw (ef, ei, ez) at e
 
-  applied-kept : SystemKept s l l1
-  applied-kept = kept_store s l _ _ l1 stored (by_length L _ a _) (omega arith) (omega arith) (inr (omega arith))
+  applied-kept : SystemKept own.shape l l1
+  applied-kept = kept_store own.shape l _ _ l1 stored (by_length L _ a _) (omega arith) (omega arith) (inr (omega arith))
 
-  pub bound-after : (b : ℕ) (bound : Vec3) → b ≡ a → bound ≡ bound_of (right_sums s a l) → bound ≡ bound_of (right_sums z b l1)
-  bound-after b bound eb h = rw (ez, eb, applied-kept.right) h
+  pub bound-after : (f : Frame) (bound : Vec3) → f ≡ own → bound ≡ bound_of (right_sums own l) → bound ≡ bound_of (right_sums f l1)
+  bound-after f bound eb h = rw (eb, applied-kept.right) h
 
-  pub rounded : (b : ℕ) (l2 : List Float) (r : Round) (x : Result Step Refusal) → b ≡ a → matrix_at s ≤ length l → Ran z (stepped_by z b l1 r) l1 l2 x → Rounded s (problem_in L a l) r l l2 x
+  pub rounded : (f : Frame) (l2 : List Float) (r : Round) (x : Result Step Refusal) → f ≡ own → matrix_at own.shape ≤ length l → Ran f.shape (stepped_by f l1 r) l1 l2 x → Rounded own.shape (problem_in L a l) r l l2 x
   unfolding round
-  rounded b l2 r x eb room D0 =
-      let D : Ran s (stepped_by s a l1 r) l1 l2 x = rw (ez, eb) at D0 in
-      let n = s.cameras in
+  rounded f l2 r x eb room D0 =
+      let D : Ran own.shape (stepped_by own l1 r) l1 l2 x = rw eb at D0 in
+      let n = own.shape.cameras in
       let size : length w ≡ n = by_length L _ a _ in
-      let f : load vector l1 (applied_at s) n ≡ w = own-field n l _ w l1 stored size (omega arith) in
-      let p : load vector l1 (positions_at s) n ≡ load vector l (positions_at s) n = other-field n l _ w l1 (positions_at s) stored size (inr (omega arith)) in
-      let y : load vector l1 (residual_at s) n ≡ load vector l (residual_at s) n = other-field n l _ w l1 (residual_at s) stored size (inr (omega arith)) in
-      let z : load vector l1 (search_at s) n ≡ load vector l (search_at s) n = other-field n l _ w l1 (search_at s) stored size (inr (omega arith)) in
+      let f : load vector l1 (applied_at own.shape) n ≡ w = own-field n l _ w l1 stored size (omega arith) in
+      let p : load vector l1 (positions_at own.shape) n ≡ load vector l (positions_at own.shape) n = other-field n l _ w l1 (positions_at own.shape) stored size (inr (omega arith)) in
+      let y : load vector l1 (residual_at own.shape) n ≡ load vector l (residual_at own.shape) n = other-field n l _ w l1 (residual_at own.shape) stored size (inr (omega arith)) in
+      let z : load vector l1 (search_at own.shape) n ≡ load vector l (search_at own.shape) n = other-field n l _ w l1 (search_at own.shape) stored size (inr (omega arith)) in
       record {
-        run = D.run (reduced_by L (weights_in s l) a) ∙ rw (problem-kept s a l l1 (reduced_by L (weights_in s l) a) applied-kept, f, p, y, z);
+        run = D.run (reduced_by L (weights_in own.shape l) a) ∙ rw (problem-kept own.shape a l l1 (reduced_by L (weights_in own.shape l) a) applied-kept, f, p, y, z);
         kept = kept_then applied-kept D.kept;
       }

@@ -19,9 +19,10 @@ use Rattle.std.proofs.Common.{Err, Ok, Result}
 use Rattle.network.specs.declared.Cause.{Cause}
 use Rattle.network.specs.declared.Cause.TheVariants.{Curvature, Product}
 use Rattle.network.specs.declared.Refusal.{Refusal}
+use Rattle.iterative.specs.declared.Frame.{Frame}
 use Rattle.iterative.specs.declared.Round.{Round}
-use Rattle.iterative.specs.declared.Step.{Step}
-use Rattle.iterative.specs.declared.Step.TheVariants.{Ended, Running}
+use Rattle.std.specs.declared.ops.ControlFlow.TheVariants.{Break, Continue}
+use Rattle.iterative.specs.inner.Solver.{Step}
 use Rattle.iterative.specs.inner.Solver.{Iterated, Rounded, SystemKept, begun, problem_in, right_sums, rounds_from, run_in, state_in}
 
 -- ---- a round that goes on is counted
@@ -95,7 +96,7 @@ module _ (L : Links) (a : ℕ) (l : List Float) (first : Round) where
     own : Rounded s P r l1 l2 x
     own = subst (λ (Q : Problem). Rounded s Q r l1 l2 x) (problem-in-kept L a l l1 R.kept) D
 
-    pub rounds-next : (t : Round) → x ≡ Ok (Running t) → Rounds L a l first (k + 1) l2 t
+    pub rounds-next : (t : Round) → x ≡ Ok (Continue t) → Rounds L a l first (k + 1) l2 t
     rounds-next t e =
         let q : running (state_in s l2 t) ≡ round P (state_in s l1 r) = rw e at own.run in
         record {
@@ -114,17 +115,17 @@ module _ (L : Links) (a : ℕ) (l : List Float) (first : Round) where
     pub rounds-failed : (m : ℕ) {q : Refusal} → m ≡ most_rounds s.cameras → k < m → x ≡ Err q → Iterated s P (running (state_in s l first)) l l2 (Err q)
     rounds-failed m {q} em h e = let I = stopped m em h (Err q) e refl in record { run = rw e at I.run; kept = I.kept }
 
-    pub rounds-done : (m : ℕ) (t : Round) → m ≡ most_rounds s.cameras → k < m → x ≡ Ok (Ended t) → Iterated s P (running (state_in s l first)) l l2 (Ok (Ended t))
-    rounds-done m t em h e = let I = stopped m em h (Ok (Ended t)) e refl in record { run = rw e at I.run; kept = I.kept }
+    pub rounds-done : (m : ℕ) (t : Round) → m ≡ most_rounds s.cameras → k < m → x ≡ Ok (Break t) → Iterated s P (running (state_in s l first)) l l2 (Ok (Break t))
+    rounds-done m t em h e = let I = stopped m em h (Ok (Break t)) e refl in record { run = rw e at I.run; kept = I.kept }
 
   -- ---- with a first round, or none
-
-  pub bound-right : (sums bound : Vec3) → bound ≡ bound_of sums → sums ≡ right_sums s a l → bound ≡ bound_of (right_sums s a l)
-  bound-right sums bound e f = rw (e, f)
 
   pub iterated-begun : (b : Bool) (l1 : List Float) (x : Result Step Refusal) → b ≡ any first.active → b ≡ true → Iterated s P (running (state_in s l first)) l l1 x →
       Iterated s P (begun (state_in s l first)) l l1 x
   iterated-begun b l1 x e h I = let q : any first.active ≡ true = sym e ∙ h in record { run = rw q I.run; kept = I.kept }
 
-  pub iterated-none : (b : Bool) → b ≡ any first.active → b ≡ false → Iterated s P (begun (state_in s l first)) l l (Ok (Ended first))
+  pub iterated-none : (b : Bool) → b ≡ any first.active → b ≡ false → Iterated s P (begun (state_in s l first)) l l (Ok (Break first))
   iterated-none b e h = let q : any first.active ≡ false = sym e ∙ h in record { run = rw q (sym (rounds-over P (most_rounds s.cameras) (ended (state_in s l first)) refl)); kept = kept_same s l }
+
+pub bound-right : (f : Frame) (l : List Float) (sums bound : Vec3) → bound ≡ bound_of sums → sums ≡ right_sums f l → bound ≡ bound_of (right_sums f l)
+bound-right f l sums bound e h = rw (e, h)

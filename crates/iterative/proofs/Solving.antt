@@ -6,7 +6,7 @@ use Rattle.network.specs.declared.Refusal.{Refusal}
 use Rattle.iterative.proofs.Refused.{tested-refused, opened-refused}
 use Rattle.std.proofs.Common.{None, Option, Some}
 use mathlib.Core.Path.{ap, refl, subst, sym, ◌∙◌, ◌≡◌}
-use mathlib.Core.Logic.{inr}
+use mathlib.Core.Logic.{◌⊎◌, inl, inr}
 use mathlib.Core.Bool.{Bool}
 use mathlib.Core.List.{List}
 use Prim.Native.Nat.{ℕ, ◌≤◌}
@@ -36,30 +36,31 @@ use Rattle.iterative.specs.Opening.{Each, Opened, segments_of}
 use Rattle.iterative.specs.Problem.{Problem, field_dot, most_rounds}
 use Rattle.iterative.specs.Reduced.{problem, problem_by, right_of}
 use Rattle.iterative.specs.declared.Active.{Active}
+use Rattle.iterative.specs.declared.Frame.{Frame}
 use Rattle.iterative.specs.declared.Round.{Round}
-use Rattle.iterative.specs.declared.Step.{Step}
-use Rattle.iterative.specs.declared.Step.TheVariants.{Ended, Running}
+use Rattle.std.specs.declared.ops.ControlFlow.TheVariants.{Break, Continue}
+use Rattle.iterative.specs.inner.Solver.{Step}
 use Rattle.iterative.specs.inner.Solver.{Concluded, Iterated, IterativeSolved, Outside, Settled, Started, Tested, answer_of, begun}
-use Rattle.iterative.specs.inner.Solver.{problem_in, right_sums, rounds_from, run_in, state_in}
+use Rattle.iterative.specs.inner.Solver.{frame_of, problem_in, reduced_system, right_sums, rounds_from, run_in, state_in}
 
 -- ---- the start
 
-pub started : (s : Shape) (a : ℕ) (l l' : List Float) (v w bound : Vec3) (active : Active) → Opened s a s.cameras l l' v w → bound ≡ bound_of v →
-    active ≡ starts_active bound v → Started s a l l' v (record { old = w; active = active; count = 0 })
-started s a l l' v w bound active O e f = record { opened = O; active = rw e at f; count = refl }
+pub started : (f : Frame) (l l' : List Float) (v w bound : Vec3) (active : Active) → Opened f.shape f.anchor f.shape.cameras l l' v w → bound ≡ bound_of v →
+    active ≡ starts_active bound v → Started f l l' v (record { old = w; active = active; count = 0 })
+started f l l' v w bound active O e h = record { opened = O; active = rw e at h; count = refl }
 
 -- what the rounds read of it
-module _ (s : Shape) (a : ℕ) (l l1 : List Float) (v : Vec3) (r : Round) (room : matrix_at s ≤ length l) (S : Started s a l l1 v r) where
-  started-outside : Outside s l l1
-  started-outside = opened-outside s a l l1 v r.old S.opened
+module _ (f : Frame) (l l1 : List Float) (v : Vec3) (r : Round) (room : matrix_at f.shape ≤ length l) (S : Started f l l1 v r) where
+  started-outside : Outside f.shape l l1
+  started-outside = opened-outside f.shape f.anchor l l1 v r.old S.opened
 
-  started-fields : Each (λ g. load vector l1 g.place s.cameras ≡ field s.cameras g.entry) (segments_of s a (load term l 0 s.cameras))
-  started-fields = opened-fields s a l l1 v r.old S.opened (omega arith)
+  started-fields : Each (λ g. load vector l1 g.place f.shape.cameras ≡ field f.shape.cameras g.entry) (segments_of f.shape f.anchor (load term l 0 f.shape.cameras))
+  started-fields = opened-fields f.shape f.anchor l l1 v r.old S.opened (omega arith)
 
-  pub started-room : matrix_at s ≤ length l1
+  pub started-room : matrix_at f.shape ≤ length l1
   started-room = rw started-outside.size room
 
-  pub started-sums : v ≡ right_sums s a l1
+  pub started-sums : v ≡ right_sums f l1
   started-sums = S.opened.sums ∙ rw started-fields.1.0
 
 -- ---- the end
@@ -95,7 +96,7 @@ settled L z a b p q r l l1 l2 v ez eb room ep eq er f1 f2 f3 =
 
 -- the final test: the square sums are the method's
 pub tested-done : (L : Links) (a : ℕ) (l l' : List Float) (sums bound v : Vec3) (r : Option ℕ) → let s = L.shape in let P = problem_in L a l in
-    sums ≡ right_sums s a l → bound ≡ allowed_of sums → Settled s P l l' v → r ≡ component (bad_residual bound v) → Tested s P l l' r
+    sums ≡ right_sums (frame_of (reduced_system L a)) l → bound ≡ allowed_of sums → Settled s P l l' v → r ≡ component (bad_residual bound v) → Tested s P l l' r
 unfolding square_sum
 tested-done L a l l' sums bound v r e f S g = record { place = g ∙ rw (f, e, S.residual); kept = S.kept }
 
@@ -108,11 +109,9 @@ module _ (s : Shape) (P : Problem) (l l' : List Float) (p : Option ℕ) (r : Rou
 
 -- the ways in which the rounds leave a run
 module _ (s : Shape) (P : Problem) (l : List Float) (x : Step) where
-  pub concluded-running : (r : Round) (l' : List Float) (o : Result ℕ Refusal) → x ≡ Running r → Concluded s P (ended (state_in s l r)) l l' o → Concluded s P (run_in s l (Ok x)) l l' o
-  concluded-running r l' o e C = rw e (record { answer = C.answer; kept = C.kept })
-
-  pub concluded-ended : (r : Round) (l' : List Float) (o : Result ℕ Refusal) → x ≡ Ended r → Concluded s P (ended (state_in s l r)) l l' o → Concluded s P (run_in s l (Ok x)) l l' o
-  concluded-ended r l' o e C = rw e C
+  pub concluded : (r : Round) (l' : List Float) (o : Result ℕ Refusal) → (x ≡ Continue r) ⊎ (x ≡ Break r) → Concluded s P (ended (state_in s l r)) l l' o → Concluded s P (run_in s l (Ok x)) l l' o
+  concluded r l' o (inl e) C = rw e (record { answer = C.answer; kept = C.kept })
+  concluded r l' o (inr e) C = rw e C
 
 -- ---- the whole solve
 
@@ -122,8 +121,8 @@ accepted-positions None t s e = let q : t ≡ s = cc in ap (λ (v : State). v.po
 
 closed-positions : (P : Problem) (s : Shape) (l : List Float) (x : Result Step Refusal) (t : State) → closed P (run_in s l x) ≡ accepted t → positions_in s l ≡ t.positions
 closed-positions P s l (Err r) t e = let z : ◌≡◌ {A = ℕ} 0 1 = cc in absurd (omega arith)
-closed-positions P s l (Ok (Running r)) t e = accepted-positions (component (bad_residual (allowed P) (residual_of P (positions_in s l)))) (state_in s l r) t e
-closed-positions P s l (Ok (Ended r)) t e = accepted-positions (component (bad_residual (allowed P) (residual_of P (positions_in s l)))) (state_in s l r) t e
+closed-positions P s l (Ok (Continue r)) t e = accepted-positions (component (bad_residual (allowed P) (residual_of P (positions_in s l)))) (state_in s l r) t e
+closed-positions P s l (Ok (Break r)) t e = accepted-positions (component (bad_residual (allowed P) (residual_of P (positions_in s l)))) (state_in s l r) t e
 
 module _ (L : Links) (a : ℕ) (l : List Float) where
   abbrev s : Shape
@@ -131,6 +130,9 @@ module _ (L : Links) (a : ℕ) (l : List Float) where
 
   abbrev n : ℕ
   n = s.cameras
+
+  abbrev frame : Frame
+  frame = frame_of (reduced_system L a)
 
   abbrev own : Problem
   own = problem_by L (weights_in s l) (load term l 0 n) a
@@ -151,23 +153,23 @@ module _ (L : Links) (a : ℕ) (l : List Float) where
       }
 
   -- once the start is made: the system in the buffer, and the state
-  module _ (l1 : List Float) (sums : Vec3) (first : Round) (room : matrix_at s ≤ length l) (S : Started s a l l1 sums first) where
+  module _ (l1 : List Float) (sums : Vec3) (first : Round) (room : matrix_at s ≤ length l) (S : Started frame l l1 sums first) where
     started-problem : problem_in L a l1 ≡ own
     unfolding problem_by
     started-problem =
-        let O = started-outside s a l l1 sums first room S in
+        let O = started-outside frame l l1 sums first room S in
         λ i. record {
           cameras = n;
           anchor = a;
           diagonal = diagonal_of (O.terms i);
-          right = (started-fields s a l l1 sums first room S).1.0 i;
+          right = (started-fields frame l l1 sums first room S).1.0 i;
           operator = reduced_by L (weights-kept s l l1 O.rest i) a;
         }
 
     started-state : state_in s l1 first ≡ start own
     unfolding problem_by start square_sum
     started-state =
-        let F = started-fields s a l l1 sums first room S in
+        let F = started-fields frame l l1 sums first room S in
         let e : first.active ≡ starts_active (bound_of (square_sum own)) (square_sum own) = S.active ∙ rw S.opened.sums in
         λ i. record {
           positions = F.0 i;
@@ -186,7 +188,7 @@ module _ (L : Links) (a : ℕ) (l : List Float) where
       solution-is = found-is None bad ∙ sym (ap (closed own) (own-rounds.run ∙ ap (rounds_from own (most_rounds n)) (ap begun started-state)))
 
       rounds-outside : Outside s l l2
-      rounds-outside = outside-then (started-outside s a l l1 sums first room S) own-rounds.kept.outside
+      rounds-outside = outside-then (started-outside frame l l1 sums first room S) own-rounds.kept.outside
 
       pub solved-failed : {q : Refusal} → y ≡ Err q → IterativeSolved s own l l2 (Err q)
       solved-failed {q} h =
@@ -215,8 +217,8 @@ none-bad p f n e h = sym e ∙ h
 pub iterated-room : (s : Shape) (P : Problem) (x : Run) (l1 l2 : List Float) (t : Result Step Refusal) → Iterated s P x l1 l2 t → matrix_at s ≤ length l1 → matrix_at s ≤ length l2
 iterated-room s P x l1 l2 t I h = rw I.kept.outside.size h
 
-pub iterated-sums : (s : Shape) (P : Problem) (x : Run) (l1 l2 : List Float) (t : Result Step Refusal) (a : ℕ) (v : Vec3) → Iterated s P x l1 l2 t → v ≡ right_sums s a l1 → v ≡ right_sums s a l2
-iterated-sums s P x l1 l2 t a v I h = h ∙ rw I.kept.right
+pub iterated-sums : (f : Frame) (P : Problem) (x : Run) (l1 l2 : List Float) (t : Result Step Refusal) (v : Vec3) → Iterated f.shape P x l1 l2 t → v ≡ right_sums f l1 → v ≡ right_sums f l2
+iterated-sums f P x l1 l2 t v I h = h ∙ rw I.kept.right
 
 -- where the network's system stands in the buffer, the problem is the network's
 pub problem-held : (net : Network) (l : List Float) (a : ℕ) → LinksSound (links_of net) → Segments net.shape (weights_of net) (terms net) l → a ≡ anchor net →

@@ -1,4 +1,5 @@
 // The components x, y and z: each test and each operation on one of them, and then on all three.
+// The three are spelled out: through a map with the test as a closure each call would have to prove what its closure computes, which is longer.
 ghost use Rattle.std.specs.Prelude.{◌≡◌, cond, not, ◌&&◌, ◌||◌};
 ghost use Rattle.std.specs.Float.{binary64};
 ghost use Rattle.std.specs.Float.Ieee.{add, mul, lt, le};

@@ -4,15 +4,16 @@ ghost use Rattle.system.specs.Work.{matrix_at};
 ghost use Rattle.iterative.specs.Method.{ended};
 ghost use Rattle.iterative.specs.Opening.{Opened, start_segments};
 ghost use Rattle.iterative.specs.inner.Solver.{FieldsFit, TurnOpened, Started, right_sums, Settled, Tested, Concluded, put_each, state_in, run_in};
-ghost use Rattle.iterative.specs.inner.Solver.{problem_in};
+ghost use Rattle.iterative.specs.inner.Solver.{frame_of, problem_in};
 
 use crate::components::{allowed, bound, find_bad_residual, starts_active};
 use crate::fields::{add_products, field_dot, ridged_diagonal, subtract};
 use crate::reduced_system::ReducedSystem;
-use crate::{Round, Step};
+use crate::{Frame, Round, Step};
 use field::{Vec3, put3, zero};
 use network::answers::refused_at;
 use network::{Cause, Refusal, Shape};
+use std::ops::ControlFlow::{Break, Continue};
 use system::get_term;
 use system::work::{applied_at, positions_at, preconditioned_at, residual_at, right_at, search_at};
 
@@ -44,16 +45,17 @@ fn put_start(s: Shape, work: &mut [f64], i: usize, b: Vec3, z: Vec3)
 }
 
 // The same of camera i's term, zero at the anchor; and the camera's products added to the sums.
-fn open_camera(s: Shape, work: &mut [f64], anchor: usize, i: usize, sums: StartSums) -> StartSums
-    requires { FieldsFit s (length work.old) × (i < s.cameras) }
-    ensures { TurnOpened s anchor i sums.right sums.old work.old work.new result.right result.old }
+fn open_camera(frame: Frame, work: &mut [f64], i: usize, sums: StartSums) -> StartSums
+    requires { FieldsFit frame.shape (length work.old) × (i < frame.shape.cameras) }
+    ensures { TurnOpened frame i sums.right sums.old work.old work.new result.right result.old }
 {
-    if i == anchor {
+    let s = frame.shape;
+    if i == frame.anchor {
         put_start(s, work, i, zero(), zero());
         return sums;
     }
     let b = get_term(work, i).right;
-    let z = b.div(ridged_diagonal(work, i));
+    let z = b / ridged_diagonal(work, i);
     put_start(s, work, i, b, z);
     StartSums {
         right: add_products(sums.right, b, b),
@@ -62,25 +64,25 @@ fn open_camera(s: Shape, work: &mut [f64], anchor: usize, i: usize, sums: StartS
 }
 
 // Every field of the start, and its sums, in one pass over the cameras.
-fn open(s: Shape, work: &mut [f64], anchor: usize) -> StartSums
-    requires { FieldsFit s (length work.old) }
-    ensures { Opened s anchor s.cameras work.old work.new result.right result.old }
+fn open(frame: Frame, work: &mut [f64]) -> StartSums
+    requires { FieldsFit frame.shape (length work.old) }
+    ensures { let s = frame.shape in Opened s frame.anchor s.cameras work.old work.new result.right result.old }
 {
     let mut sums = StartSums {
         right: zero(),
         old: zero(),
     };
-    for i in 0..s.cameras {
-        sums = open_camera(s, work, anchor, i, sums);
+    for i in 0..frame.shape.cameras {
+        sums = open_camera(frame, work, i, sums);
     }
     sums
 }
 
-pub(crate) fn start(s: Shape, work: &mut [f64], anchor: usize) -> Opening
-    requires { FieldsFit s (length work.old) }
-    ensures { Started s anchor work.old work.new result.sums result.round }
+pub(crate) fn start(frame: Frame, work: &mut [f64]) -> Opening
+    requires { FieldsFit frame.shape (length work.old) }
+    ensures { Started frame work.old work.new result.sums result.round }
 {
-    let sums = open(s, work, anchor);
+    let sums = open(frame, work);
     let right = sums.right;
     let old = sums.old;
     Opening {
@@ -109,7 +111,7 @@ fn residual(t: &ReducedSystem<'_>, work: &mut [f64]) -> Vec3
 // The lowest component that fails the final test (13).
 fn finish(t: &ReducedSystem<'_>, work: &mut [f64], sums: Vec3) -> Option<usize>
     requires s_in_bounds { matrix_at t.now.links.shape ≤ length work.old }
-    requires sums_value { sums ≡ right_sums t.now.links.shape t.now.anchor work.old }
+    requires sums_value { sums ≡ right_sums (frame_of t.now) work.old }
     ensures { Tested t.now.links.shape (problem_in t.now.links t.now.anchor work.old)
         work.old work.new result }
 {
@@ -120,7 +122,7 @@ fn finish(t: &ReducedSystem<'_>, work: &mut [f64], sums: Vec3) -> Option<usize>
 // The answer to a run that ended with the record r.
 fn judge(t: &ReducedSystem<'_>, work: &mut [f64], sums: Vec3, r: Round) -> Result<usize, Refusal>
     requires s_in_bounds { matrix_at t.now.links.shape ≤ length work.old }
-    requires sums_value { sums ≡ right_sums t.now.links.shape t.now.anchor work.old }
+    requires sums_value { sums ≡ right_sums (frame_of t.now) work.old }
     ensures { Concluded t.now.links.shape (problem_in t.now.links t.now.anchor work.old)
         (ended (state_in t.now.links.shape work.old r)) work.old work.new result }
 {
@@ -137,12 +139,11 @@ pub(crate) fn conclude(
     x: Step,
 ) -> Result<usize, Refusal>
     requires s_in_bounds { matrix_at t.now.links.shape ≤ length work.old }
-    requires sums_value { sums ≡ right_sums t.now.links.shape t.now.anchor work.old }
+    requires sums_value { sums ≡ right_sums (frame_of t.now) work.old }
     ensures { Concluded t.now.links.shape (problem_in t.now.links t.now.anchor work.old)
         (run_in t.now.links.shape work.old (Ok x)) work.old work.new result }
 {
     match x {
-        Step::Running(r) => judge(t, work, sums, r),
-        Step::Ended(r) => judge(t, work, sums, r),
+        Continue(r) | Break(r) => judge(t, work, sums, r),
     }
 }

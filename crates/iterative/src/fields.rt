@@ -12,8 +12,8 @@ ghost use Rattle.iterative.specs.Method.{stepped as stepped_of, search_step, sea
 ghost use Rattle.iterative.specs.inner.Solver.{FieldStepped, FieldsFit, Summed, Preconditioned, diagonal_in};
 ghost use Rattle.iterative.specs.inner.Solver.{Computes, MayMake, Makes};
 
-use crate::Active;
 use crate::components::{search_step, stepped};
+use crate::{Active, Frame};
 use double::is_finite;
 use field::{Vec3, anchored, get3, put3, zero};
 use network::Shape;
@@ -35,7 +35,7 @@ fn put_vector(work: &mut [f64], p: usize, i: usize, v: Vec3)
     put3(work, p + 3 * i, v);
 }
 
-// ---- sums
+// ---- sums, of fields of n vectors with an anchor: from a `Frame` each place in their contracts would be longer
 
 // The products on each axis added to a sum.
 pub(crate) fn add_products(sum: Vec3, a: Vec3, b: Vec3) -> Vec3
@@ -93,11 +93,11 @@ fn bad_at(i: usize, anchor: usize, d: f64) -> bool
 }
 
 // The lowest camera whose diagonal with the ridge is not finite.
-pub(crate) fn find_bad_diagonal(s: Shape, work: &[f64], anchor: usize) -> Option<usize>
-    requires { FieldsFit s (length work.now) }
-    ensures { result ≡ lowest (bad_diagonal anchor (diagonal_of (load term work.now 0 s.cameras))) s.cameras }
+pub(crate) fn find_bad_diagonal(frame: Frame, work: &[f64]) -> Option<usize>
+    requires { FieldsFit frame.shape (length work.now) }
+    ensures { let n = frame.shape.cameras in result ≡ lowest (bad_diagonal frame.anchor (diagonal_of (load term work.now 0 n))) n }
 {
-    (0..s.cameras).find(|&i| bad_at(i, anchor, ridged_diagonal(work, i)))
+    (0..frame.shape.cameras).find(|&i| bad_at(i, frame.anchor, ridged_diagonal(work, i)))
 }
 
 // ---- fields that are filled, one camera's vector after another
@@ -137,40 +137,36 @@ fn fill_summed<F: Fn(&[f64], usize) -> Vec3>(
 }
 
 // The field at `from` over the diagonal with the ridge, and zero at the anchor. Returned is the dot of the two fields, summed in the same pass.
-pub(crate) fn precondition(
-    s: Shape,
-    work: &mut [f64],
-    anchor: usize,
-    from: usize,
-    into: usize,
-) -> Vec3
-    requires { Ordered s from into (length work.old) }
-    ensures { Preconditioned s anchor from into work.old work.new result }
+pub(crate) fn precondition(frame: Frame, work: &mut [f64], from: usize, into: usize) -> Vec3
+    requires { Ordered frame.shape from into (length work.old) }
+    ensures { Preconditioned frame from into work.old work.new result }
 {
-    fill_summed(work, s.cameras, anchor, from, into, |work, i| {
-        let v = get_vector(work, from, i).div(ridged_diagonal(work, i));
+    let n = frame.shape.cameras;
+    let anchor = frame.anchor;
+    fill_summed(work, n, anchor, from, into, |work, i| {
+        let v = get_vector(work, from, i) / ridged_diagonal(work, i);
         anchored(i, anchor, zero(), v)
     })
 }
 
 // The field at `into` stepped along the field at `along`, but for the anchor. Returned is its dot with itself, summed in the same pass.
 pub(crate) fn step_field<F: Fn(f64, f64) -> f64>(
-    s: Shape,
+    frame: Frame,
     work: &mut [f64],
-    anchor: usize,
     f: F,
     active: Active,
     alpha: Vec3,
     into: usize,
     along: usize,
 ) -> Vec3
-    requires room { Ordered s into along (length work.old) }
+    requires room { Ordered frame.shape into along (length work.old) }
     requires callable { F.IsAlwaysCallable f }
-    ensures { (op : _) → Computes (F.post f) op → FieldStepped s anchor op active alpha into along work.old work.new result }
+    ensures { (op : _) → Computes (F.post f) op → FieldStepped frame op active alpha into along work.old work.new result }
 {
+    let anchor = frame.anchor;
     fill_summed(
         work,
-        s.cameras,
+        frame.shape.cameras,
         anchor,
         into,
         into,
@@ -215,6 +211,6 @@ pub(crate) fn subtract(s: Shape, work: &mut [f64], from: usize, into: usize)
         (difference s.cameras (load vector work.old into s.cameras) (load vector work.old from s.cameras)) }
 {
     fill(work, s.cameras, into, |work, i| {
-        get_vector(work, into, i).sub(get_vector(work, from, i))
+        get_vector(work, into, i) - get_vector(work, from, i)
     });
 }

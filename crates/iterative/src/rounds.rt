@@ -1,33 +1,36 @@
 // The rounds of `solve_reduced_pcg`. All but the operator works on the system as it stands in the buffer.
+// What `bound` and `sums` are is asked of them here and in `ends`: the fact names the buffer, so a struct of them would ask it all the same.
 ghost use Rattle.std.specs.Prelude.{◌≡◌, ◌≤◌, ◌<◌, length};
 ghost use Rattle.system.specs.Work.{matrix_at};
 ghost use Rattle.iterative.specs.Problem.{most_rounds};
 ghost use Rattle.iterative.specs.Method.{bound_of, running};
 ghost use Rattle.iterative.specs.inner.Solver.{FieldsFit, Iterated, MovedAlong, Ran, Rounded, begun, continued_by, problem_in, redirected_by};
-ghost use Rattle.iterative.specs.inner.Solver.{right_sums, state_in, stepped_by};
+ghost use Rattle.iterative.specs.inner.Solver.{frame_of, right_sums, state_in, stepped_by};
 
 use crate::components::{any, bound, find_bad_curvature, find_bad_product, quotient, stay_active};
 use crate::fields::{field_dot, precondition, step_field, update_search};
 use crate::reduced_system::ReducedSystem;
-use crate::{Round, Step};
+use crate::{Frame, Round, Step};
 use field::Vec3;
 use network::answers::refused_at;
-use network::{Cause, Refusal, Shape};
+use network::{Cause, Refusal};
+use std::ops::ControlFlow::{Break, Continue};
 use system::work::{applied_at, positions_at, preconditioned_at, residual_at, search_at};
 
 // The new search vector (12).
-fn redirect(s: Shape, work: &mut [f64], anchor: usize, r: Round) -> Result<Step, Refusal>
-    requires { FieldsFit s (length work.old) }
-    ensures { Ran s (redirected_by s anchor work.old r) work.old work.new result }
+fn redirect(frame: Frame, work: &mut [f64], r: Round) -> Result<Step, Refusal>
+    requires { FieldsFit frame.shape (length work.old) }
+    ensures { Ran frame.shape (redirected_by frame work.old r) work.old work.new result }
 {
+    let s = frame.shape;
     let active = r.active;
     let old = r.old;
     let at = preconditioned_at(s);
-    let new = precondition(s, work, anchor, residual_at(s), at);
+    let new = precondition(frame, work, residual_at(s), at);
     refused_at(Cause::Product, find_bad_product(active, old, new))?;
     let beta = quotient(new, old);
     update_search(s, work, active, beta, at, search_at(s));
-    Ok(Step::Running(Round {
+    Ok(Continue(Round {
         old: new,
         active: active,
         count: r.count,
@@ -35,39 +38,32 @@ fn redirect(s: Shape, work: &mut [f64], anchor: usize, r: Round) -> Result<Step,
 }
 
 // On with a new search vector, where a component is still active.
-fn go_on(s: Shape, work: &mut [f64], anchor: usize, r: Round) -> Result<Step, Refusal>
-    requires { FieldsFit s (length work.old) }
-    ensures { Ran s (continued_by s anchor work.old r) work.old work.new result }
+fn go_on(frame: Frame, work: &mut [f64], r: Round) -> Result<Step, Refusal>
+    requires { FieldsFit frame.shape (length work.old) }
+    ensures { Ran frame.shape (continued_by frame work.old r) work.old work.new result }
 {
     if any(r.active) {
-        redirect(s, work, anchor, r)
+        redirect(frame, work, r)
     } else {
-        Ok(Step::Ended(r))
+        Ok(Break(r))
     }
 }
 
 // Positions and residual after the step along the search vector.
-fn move_along(
-    s: Shape,
-    work: &mut [f64],
-    anchor: usize,
-    bound: Vec3,
-    r: Round,
-    curvature: Vec3,
-) -> Round
-    requires fields_fit { FieldsFit s (length work.old) }
-    requires bound_value { bound ≡ bound_of (right_sums s anchor work.old) }
+fn move_along(frame: Frame, work: &mut [f64], bound: Vec3, r: Round, curvature: Vec3) -> Round
+    requires fields_fit { FieldsFit frame.shape (length work.old) }
+    requires bound_value { bound ≡ bound_of (right_sums frame work.old) }
     requires count_bound { r.count < 4000 }
-    ensures { MovedAlong s anchor r curvature work.old work.new result }
+    ensures { MovedAlong frame r curvature work.old work.new result }
 {
+    let s = frame.shape;
     let count = r.count + 1;
     let active = r.active;
     let old = r.old;
     let alpha = quotient(old, curvature);
     step_field(
-        s,
+        frame,
         work,
-        anchor,
         |x, y| x + y,
         active,
         alpha,
@@ -75,9 +71,8 @@ fn move_along(
         search_at(s),
     );
     let sums = step_field(
-        s,
+        frame,
         work,
-        anchor,
         |x, y| x - y,
         active,
         alpha,
@@ -92,19 +87,20 @@ fn move_along(
 }
 
 // The round, once the system has been applied to the search vector (11).
-fn step(s: Shape, work: &mut [f64], anchor: usize, bound: Vec3, r: Round) -> Result<Step, Refusal>
-    requires fields_fit { FieldsFit s (length work.old) }
-    requires bound_value { bound ≡ bound_of (right_sums s anchor work.old) }
+fn step(frame: Frame, work: &mut [f64], bound: Vec3, r: Round) -> Result<Step, Refusal>
+    requires fields_fit { FieldsFit frame.shape (length work.old) }
+    requires bound_value { bound ≡ bound_of (right_sums frame work.old) }
     requires count_bound { r.count < 4000 }
-    ensures { Ran s (stepped_by s anchor work.old r) work.old work.new result }
+    ensures { Ran frame.shape (stepped_by frame work.old r) work.old work.new result }
 {
-    let curvature = field_dot(work, s.cameras, anchor, search_at(s), applied_at(s));
+    let s = frame.shape;
+    let curvature = field_dot(work, s.cameras, frame.anchor, search_at(s), applied_at(s));
     refused_at(
         Cause::Curvature,
         find_bad_curvature(r.active, r.old, curvature),
     )?;
-    let t = move_along(s, work, anchor, bound, r, curvature);
-    go_on(s, work, anchor, t)
+    let t = move_along(frame, work, bound, r, curvature);
+    go_on(frame, work, t)
 }
 
 pub(crate) fn round(
@@ -114,14 +110,14 @@ pub(crate) fn round(
     r: Round,
 ) -> Result<Step, Refusal>
     requires s_in_bounds { matrix_at t.now.links.shape ≤ length work.old }
-    requires bound_value { bound ≡ bound_of (right_sums t.now.links.shape t.now.anchor work.old) }
+    requires bound_value { bound ≡ bound_of (right_sums (frame_of t.now) work.old) }
     requires count_bound { r.count < 4000 }
     ensures { Rounded t.now.links.shape (problem_in t.now.links t.now.anchor work.old)
         r work.old work.new result }
 {
     let s = t.shape();
     t.apply(work, search_at(s), applied_at(s));
-    step(s, work, t.anchor(), bound, r)
+    step(t.frame(), work, bound, r)
 }
 
 // 8(n - 1), clamped to 64 .. 4000.
@@ -129,11 +125,7 @@ fn most_rounds(n: usize) -> usize
     requires { (0 < n) × (n ≤ 4096) }
     ensures { (result ≡ most_rounds n) × (result ≤ 4000) }
 {
-    let k = 8 * (n - 1);
-    if k < 64 {
-        return 64;
-    }
-    if 4000 < k { 4000 } else { k }
+    (8 * (n - 1)).clamp(64, 4000)
 }
 
 // The rounds, from a first one with an active component on.
@@ -144,7 +136,7 @@ fn rounds(
     first: Round,
 ) -> Result<Step, Refusal>
     requires s_in_bounds { matrix_at t.now.links.shape ≤ length work.old }
-    requires bound_value { bound ≡ bound_of (right_sums t.now.links.shape t.now.anchor work.old) }
+    requires bound_value { bound ≡ bound_of (right_sums (frame_of t.now) work.old) }
     requires count_value { first.count ≡ 0 }
     ensures { Iterated t.now.links.shape (problem_in t.now.links t.now.anchor work.old)
         (running (state_in t.now.links.shape work.old first)) work.old work.new result }
@@ -153,11 +145,11 @@ fn rounds(
     let mut r = first;
     for _ in 0..most {
         match round(t, work, bound, r)? {
-            Step::Running(n) => r = n,
-            Step::Ended(n) => return Ok(Step::Ended(n)),
+            Continue(n) => r = n,
+            Break(n) => return Ok(Break(n)),
         }
     }
-    Ok(Step::Running(r))
+    Ok(Continue(r))
 }
 
 // The rounds, where the first one has an active component.
@@ -168,7 +160,7 @@ pub(crate) fn iterate(
     first: Round,
 ) -> Result<Step, Refusal>
     requires s_in_bounds { matrix_at t.now.links.shape ≤ length work.old }
-    requires sums_value { sums ≡ right_sums t.now.links.shape t.now.anchor work.old }
+    requires sums_value { sums ≡ right_sums (frame_of t.now) work.old }
     requires count_value { first.count ≡ 0 }
     ensures { Iterated t.now.links.shape (problem_in t.now.links t.now.anchor work.old)
         (begun (state_in t.now.links.shape work.old first)) work.old work.new result }
@@ -176,6 +168,6 @@ pub(crate) fn iterate(
     if any(first.active) {
         rounds(t, work, bound(sums), first)
     } else {
-        Ok(Step::Ended(first))
+        Ok(Break(first))
     }
 }

@@ -1,13 +1,16 @@
 -- Numbers and doubles as bytes, and back. Assumes nothing.
 use Prim.Native.Nat.{ℕ, zero, suc, ◌+◌, ◌*◌, ◌/◌, ◌%◌, ◌^◌, ◌≤◌, ◌<◌}
 use mathlib.Core.Path.{◌≡◌, refl, sym, ap, ap₂, ◌∙◌}
-use mathlib.Core.List.{List, [], ◌∷◌, ◌++◌}
+use mathlib.Core.List.{List, ◌∷◌}
 use mathlib.Core.Bool.{not}
 use native.Mathlib.Omega.{arith}
-use native.Mathlib.Nat.{add-zero, zero-add, suc-add, mul_comm, mul_assoc, pow-suc}
+use native.Mathlib.Nat.{pow-suc}
+use native.Mathlib.Numerals.{add-one}
 use lib.ListN.{length, get_or, take}
 use lib.Seq.{drop-cons}
 use lib.Dec.{T}
+use mir.Syntax.{w64}
+use Rattle.std.specs.Int.{to_le_bytes}
 use lib.Ieee.{Float, binary64, of_bits, to_bits, fits, is_nan}
 use lib.Ieee.Bits.{of_bits-to_bits, to_bits-of_bits, to_bits-lt}
 use Rattle.field.specs.Buffer.{part}
@@ -52,50 +55,50 @@ number_lt (suc k) l p b =
     let r : number_at k l (suc p) < 256 ^ k = number_lt k l (suc p) b in
     omega arith
 
--- a number in two parts, the lower first
-pub number-add : (a b : ℕ) (l : List ℕ) (p : ℕ) → number_at (a + b) l p ≡ number_at a l p + 256 ^ a * number_at b l (p + a)
-unfolding number_at
-number-add zero b l p = rw (zero-add b, add-zero) (omega arith)
-number-add (suc a) b l p =
-    let e : suc p + a ≡ p + suc a = omega arith in
-    let n = number_at b l (p + suc a) in
-    let w : 256 ^ suc a * n ≡ 256 * (256 ^ a * n) = ap (λ t. t * n) (pow-suc 256 a ∙ mul_comm (256 ^ a) 256) ∙ mul_assoc 256 (256 ^ a) n in
-    let r : number_at (a + b) l (suc p) ≡ number_at a l (suc p) + 256 ^ a * n = rw e at (number-add a b l (suc p)) in
-    rw suc-add (omega arith)
+-- a number by its bytes
+module _ (l : List ℕ) (p : ℕ) where
+  abbrev byte : ℕ → ℕ
+  byte i = get_or l (p + i) 0
 
--- the same, as code reads it
-halves : (k : ℕ) (l : List ℕ) (p : ℕ) {x y : ℕ} → x ≡ number_at k l p → y ≡ number_at k l (p + k) → x + 256 ^ k * y ≡ number_at (k + k) l p
-halves k l p e f = rw (e, f) (sym (number-add k k l p))
+  pub two-bytes : u16_at l p ≡ get_or l p 0 + 256 * byte 1
+  unfolding number_at
+  two-bytes = rw add-one (omega arith)
 
-one_byte : (l : List ℕ) (p : ℕ) → get_or l p 0 ≡ number_at 1 l p
-unfolding number_at
-one_byte l p = omega arith
+  pub four-bytes : u32_at l p ≡ get_or l p 0 + 256 * byte 1 + 256 ^ 2 * byte 2 + 256 ^ 3 * byte 3
+  unfolding number_at
+  four-bytes =
+      let a : p + 2 ≡ suc (suc p) = omega arith in
+      let b : p + 3 ≡ suc (suc (suc p)) = omega arith in
+      rw (add-one, a, b) (omega arith)
 
-module _ (l : List ℕ) (p x y : ℕ) where
-  pub u16-is : x ≡ get_or l p 0 → y ≡ get_or l (p + 1) 0 → x + 256 * y ≡ u16_at l p
-  u16-is e f = halves 1 l p (e ∙ one_byte l p) (f ∙ one_byte l (p + 1))
+  pub eight-bytes : number_at 8 l p ≡ get_or l p 0 + 256 * byte 1 + 256 ^ 2 * byte 2 + 256 ^ 3 * byte 3 + 256 ^ 4 * byte 4 + 256 ^ 5 * byte 5 + 256 ^ 6 * byte 6 + 256 ^ 7 * byte 7
+  unfolding number_at
+  eight-bytes =
+      let a : p + 2 ≡ suc (suc p) = omega arith in
+      let b : p + 3 ≡ suc (suc (suc p)) = omega arith in
+      let d : p + 4 ≡ suc (suc (suc (suc p))) = omega arith in
+      let e : p + 5 ≡ suc (suc (suc (suc (suc p)))) = omega arith in
+      let f : p + 6 ≡ suc (suc (suc (suc (suc (suc p))))) = omega arith in
+      let g : p + 7 ≡ suc (suc (suc (suc (suc (suc (suc p)))))) = omega arith in
+      rw (add-one, a, b, d, e, f, g) (omega arith)
 
-  pub u32-is : x ≡ u16_at l p → y ≡ u16_at l (p + 2) → x + 0x1_0000 * y ≡ u32_at l p
-  u32-is e f = halves 2 l p e f
-
-  pub u64-is : x ≡ u32_at l p → y ≡ u32_at l (p + 4) → x + 0x1_0000_0000 * y ≡ number_at 8 l p
-  u64-is e f = halves 4 l p e f
-
--- ---- one byte more
-
--- what is left of a number without its i lowest bytes
-abbrev pub higher : ℕ → ℕ → ℕ
-higher zero x = x
-higher (suc i) x = higher i x / 256
-
-higher-first : (i x : ℕ) → higher i (x / 256) ≡ higher i x / 256
-higher-first zero x = refl
-higher-first (suc i) x = ap (λ t. t / 256) (higher-first i x)
-
-pub bytes-more : (i x : ℕ) → bytes_of (suc i) x ≡ bytes_of i x ++ (higher i x % 256 ∷ [])
+-- the lowest bytes of more of them
+pub take-bytes : (n k x : ℕ) → n ≤ k → take n (bytes_of k x) ≡ bytes_of n x
 unfolding bytes_of
-bytes-more zero x = refl
-bytes-more (suc i) x = ap (λ t. x % 256 ∷ t) (bytes-more i (x / 256) ∙ ap (λ t. bytes_of i (x / 256) ++ (t % 256 ∷ [])) (higher-first i x))
+take-bytes zero k x h = refl
+take-bytes (suc n) zero x h = absurd (omega arith)
+take-bytes (suc n) (suc k) x h = ap (λ t. x % 256 ∷ t) (take-bytes n k (x / 256) (omega arith))
+
+pub word-bytes : (x : ℕ) → to_le_bytes w64 x ≡ bytes_of 8 x
+unfolding bytes_of
+word-bytes x =
+    let a : x / 256 ^ 2 ≡ x / 256 / 256 = omega arith in
+    let b : x / 256 ^ 3 ≡ x / 256 / 256 / 256 = omega arith in
+    let d : x / 256 ^ 4 ≡ x / 256 / 256 / 256 / 256 = omega arith in
+    let e : x / 256 ^ 5 ≡ x / 256 / 256 / 256 / 256 / 256 = omega arith in
+    let f : x / 256 ^ 6 ≡ x / 256 / 256 / 256 / 256 / 256 / 256 = omega arith in
+    let g : x / 256 ^ 7 ≡ x / 256 / 256 / 256 / 256 / 256 / 256 / 256 = omega arith in
+    cc
 
 -- ---- doubles
 

@@ -9,10 +9,10 @@ use lib.ListN.{length, get_or, take, drop, length-append, length-drop}
 use lib.Seq.{take-append-le, drop-append-le, drop-append-add, take_all, take-add, drop-drop}
 use lib.Ieee.{Float, nan}
 use Rattle.field.specs.Buffer.{part}
-use Rattle.network.specs.Network.{rows}
+use Rattle.network.specs.Network.{Content, rows}
 use Rattle.network.specs.declared.Shape.{Shape}
 use Rattle.layout.specs.Bytes.{bytes_of, double_bytes, run, wholes, doubles, total}
-use Rattle.layout.specs.Image.{Content, head_size, pairs, head, joined, count_bytes, row_bytes, row_of, sections, sizes, assembled, image}
+use Rattle.layout.specs.Image.{head_size, pairs, head, joined, count_bytes, row_bytes, row_of, sections, sizes, assembled, image}
 use Rattle.layout.proofs.Numbers.{length-bytes}
 
 -- ---- parts

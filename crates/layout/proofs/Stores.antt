@@ -1,24 +1,25 @@
 -- Buffers that are filled piece by piece. Assumes nothing.
-use Prim.Native.Nat.{ℕ, zero, suc, ◌+◌, ◌-◌, ◌*◌, ◌/◌, ◌%◌, ◌^◌, ◌≤◌, ◌<◌}
+use Prim.Native.Nat.{ℕ, zero, suc, ◌+◌, ◌-◌, ◌*◌, ◌^◌, ◌≤◌, ◌<◌}
 use mathlib.Core.Path.{◌≡◌, refl, sym, ap, ap₂, ◌∙◌}
 use mathlib.Core.List.{List, [], ◌∷◌, ◌++◌, append_assoc, append-nil}
 use native.Mathlib.Omega.{arith}
 use native.Mathlib.Nat.{add-zero, zero-add}
 use native.Mathlib.Numerals.{add-one}
-use lib.ListN.{length, get_or, take, drop, set, length-append, length-take}
+use lib.ListN.{length, get_or, take, drop, length-append}
 use mir.Syntax.{w64}
 use mir.Val.{Fits}
-use borrow.Rule.Slice.PartMut.{put_mid, mid_of}
+use borrow.Rule.Slice.PartMut.{put_mid}
 use lib.Seq.{drop-drop, length-take-le}
 use lib.Ieee.{Float, nan, binary64, to_bits}
 use Rattle.field.specs.Buffer.{write, part}
-use Rattle.field.proofs.Buffers.{set-write, write-append, write-front, write-whole, write-split, get_or-part, length_part}
-use Rattle.network.specs.Network.{rows}
+use Rattle.field.proofs.Buffers.{write-append, write-front, write-split, get_or-part, length_part}
+use Rattle.network.specs.Network.{Content, rows}
 use Rattle.network.specs.declared.Shape.{Shape}
 use Rattle.layout.specs.Bytes.{bytes_of, double_bytes, run, wholes, doubles, total}
-use Rattle.layout.specs.Image.{Content, content, head_size, pairs, head, count_bytes, row_bytes, row_of, sizes, image}
-use Rattle.layout.proofs.Numbers.{length-bytes, higher, bytes-more}
-use Rattle.layout.proofs.Runs.{run-suc, length_run, length-wholes, length-doubles, length-counts, length-row, length-rows}
+use Rattle.layout.specs.Image.{head_size, pairs, head, count_bytes, row_bytes, row_of, sizes, image}
+use Rattle.std.specs.Int.{to_le_bytes}
+use Rattle.layout.proofs.Numbers.{length-bytes, take-bytes, word-bytes}
+use Rattle.layout.proofs.Runs.{run-suc, run-ext, length_run, length-wholes, length-doubles, length-counts, length-row, length-rows}
 use Rattle.layout.proofs.Runs.{total-more, total-within, pair, length_pairs, length-head, image-parts}
 
 -- ys stored behind xs
@@ -32,28 +33,12 @@ write-none l p = refl
 
 -- ---- a number
 
-pub number-none : (l : List ℕ) (x : ℕ) → l ≡ write l 0 (bytes_of 0 x)
-unfolding bytes_of
-number-none l x = write-none l 0
-
-module _ (l m : List ℕ) (i x left : ℕ) (f : left ≡ higher i x) where
-  pub higher-more : left / 256 ≡ higher (i + 1) x
-  higher-more = rw add-one (ap (λ t. t / 256) f)
-
-  pub number_more : m ≡ write l 0 (bytes_of i x) → set m i (left % 256) ≡ write l 0 (bytes_of (i + 1) x)
-  number_more e =
-      write-next l 0 i (bytes_of i x) (left % 256 ∷ []) e (length-bytes i x) (rw zero-add (set-write m i (left % 256)))
-      ∙ ap (write l 0) (ap (λ t. bytes_of i x ++ (t % 256 ∷ [])) f ∙ rw add-one (sym (bytes-more i x)))
-
--- the part that was lent, full
-pub number-ended : (l m : List ℕ) (p n i x : ℕ) → p + n ≤ length l → let w = mid_of p (p + n - p) l in
-    m ≡ write w 0 (bytes_of i x) → i ≤ length w → length w ≤ i → length m ≡ length w → put_mid p (p + n - p) l m ≡ write l p (bytes_of n x)
-number-ended l m p n i x h e a b k =
+-- the part that was lent, with the lowest bytes
+pub number-stored : (l m b : List ℕ) (p n x : ℕ) → n ≤ 8 → p + n ≤ length l → b ≡ to_le_bytes w64 x → m ≡ take n b → put_mid p (p + n - p) l m ≡ write l p (bytes_of n x)
+number-stored l m b p n x k h e g =
     let q : p + n - p ≡ n = omega arith in
-    let lw : length (part l p n) ≡ n = length_part l p n h in
-    let lm : length m ≡ n = k ∙ rw q lw in
-    let j : i ≡ n = omega arith in
-    let f : m ≡ bytes_of n x = rw (q, j) at e ∙ write-whole (part l p n) (bytes_of n x) (lw ∙ sym (length-bytes n x)) in
+    let f : m ≡ bytes_of n x = g ∙ ap (take n) (e ∙ word-bytes x) ∙ take-bytes n 8 x k in
+    let lm : length m ≡ n = ap length f ∙ length-bytes n x in
     let r : drop n (drop p l) ≡ drop (p + length m) l = rw lm (drop-drop n p l) in
     rw (q, r) (sym (write-split l p m (omega arith)) ∙ ap (write l p) f)
 
@@ -66,21 +51,15 @@ pub run_none : (l : List ℕ) (p : ℕ) (g : ℕ → List ℕ) → l ≡ write l
 unfolding run
 run_none l p g = write-none l p
 
--- a part's element i
-part-at : {A : Type 0} (l : List A) (a n i : ℕ) (d : A) → i < length (part l a n) → get_or (part l a n) i d ≡ get_or l (a + i) d
-part-at {A} l a n i d h = get_or-part l a n i d (omega (arith, length-take n (drop a l)))
-
 module _ (l m left : List ℕ) (p i : ℕ) where
   run_more : (w : ℕ) (g : ℕ → List ℕ) → ((j : ℕ) → length (g j) ≡ w) → m ≡ write l p (run i g) → left ≡ write m (p + w * i) (g i) → left ≡ write l p (run (i + 1) g)
   run_more w g h e f = write-next l p (w * i) (run i g) (g i) e (length_run i w g h) f ∙ ap (write l p) (rw add-one (sym (run-suc i g)))
 
-  pub wholes-more : (ns : List ℕ) (a n : ℕ) → m ≡ write l p (wholes ns a i) → i < length (part ns a n) → left ≡ write m (p + 4 * i) (bytes_of 4 (get_or (part ns a n) i 0)) →
-      left ≡ write l p (wholes ns a (i + 1))
-  wholes-more ns a n e h f = run_more 4 (λ j. bytes_of 4 (get_or ns (a + j) 0)) (λ j. length-bytes 4 _) e (rw (part-at ns a n i 0 h) at f)
+  pub wholes-more : (ns : List ℕ) → m ≡ write l p (wholes ns 0 i) → left ≡ write m (p + 4 * i) (bytes_of 4 (get_or ns i 0)) → left ≡ write l p (wholes ns 0 (i + 1))
+  wholes-more ns e f = run_more 4 (λ j. bytes_of 4 (get_or ns (0 + j) 0)) (λ j. length-bytes 4 _) e (rw zero-add f)
 
-  pub doubles-more : (xs : List Float) (a n : ℕ) → m ≡ write l p (doubles xs a i) → i < length (part xs a n) → left ≡ write m (p + 8 * i) (double_bytes (get_or (part xs a n) i nan)) →
-      left ≡ write l p (doubles xs a (i + 1))
-  doubles-more xs a n e h f = run_more 8 (λ j. double_bytes (get_or xs (a + j) nan)) (λ j. length-bytes 8 _) e (rw (part-at xs a n i nan h) at f)
+  pub doubles-more : (xs : List Float) → m ≡ write l p (doubles xs 0 i) → left ≡ write m (p + 8 * i) (double_bytes (get_or xs i nan)) → left ≡ write l p (doubles xs 0 (i + 1))
+  doubles-more xs e f = run_more 8 (λ j. double_bytes (get_or xs (0 + j) nan)) (λ j. length-bytes 8 _) e (rw zero-add f)
 
   pub rows_more : (ends : List ℕ) (rays weights scales : List Float) →
       m ≡ write l p (run i (row_bytes ends rays weights scales)) → left ≡ write m (p + 48 * i) (row_bytes ends rays weights scales i) →
@@ -147,34 +126,54 @@ pub front-stored : (s : Shape) (l a left : List ℕ) →
     left ≡ write l 0 (head 1 (sizes s) ++ count_bytes s)
 front-stored s l a left e f = write-next l 0 36 (head 1 (sizes s)) (count_bytes s) e (length-head 1 (sizes s)) (f ∙ ap (write a 36) (counts-wholes s))
 
-module _ (ends : List ℕ) (rays weights scales : List Float) (l a b left : List ℕ) where
-  pub row-stored : (r p : ℕ) →
-      a ≡ write l p (wholes ends (2 * r) 2 ++ doubles rays (3 * r) 3) → b ≡ write a (p + 32) (doubles weights r 1) → left ≡ write b (p + 40) (doubles scales r 1) →
-      left ≡ write l p (row_bytes ends rays weights scales r)
-  unfolding row_bytes
-  row-stored r p e f g =
-      let es = wholes ends (2 * r) 2 in
-      let rs = doubles rays (3 * r) 3 in
-      let ws = doubles weights r 1 in
-      let n₁ : length (es ++ rs) ≡ 32 = length-append es rs ∙ ap₂ ◌+◌ (length-wholes ends (2 * r) 2) (length-doubles rays (3 * r) 3) in
-      let n₂ : length ((es ++ rs) ++ ws) ≡ 40 = length-append (es ++ rs) ws ∙ ap₂ ◌+◌ n₁ (length-doubles weights r 1) in
-      write-next l p 40 ((es ++ rs) ++ ws) (doubles scales r 1) (write-next l p 32 (es ++ rs) ws e n₁ f) n₂ g ∙ ap (write l p) (simp append_assoc)
+-- the numbers of a part
+wholes-part : (ns : List ℕ) (a n : ℕ) → a + n ≤ length ns → wholes (part ns a n) 0 (length (part ns a n)) ≡ wholes ns a n
+wholes-part ns a n h = rw (length_part ns a n h) (run-ext n _ _ (λ i q. rw zero-add (ap (bytes_of 4) (get_or-part ns a n i 0 q))))
 
-  pub image-stored : (s : Shape) (points : List Float) →
-      a ≡ write l 0 (head 1 (sizes s) ++ count_bytes s) →
-      b ≡ write a 52 (run (rows s) (row_bytes ends rays weights scales)) →
-      left ≡ write b (52 + 48 * rows s) (doubles points 0 (3 * s.points)) →
-      left ≡ write l 0 (image (content s ends rays weights scales points))
-  image-stored s points e f g =
-      let c = content s ends rays weights scales points in
-      let xs = head 1 (sizes s) in
-      let cs = count_bytes s in
-      let rs = run (rows s) (row_of c) in
-      let ps = doubles points 0 (3 * s.points) in
-      let n₁ : length (xs ++ cs) ≡ 52 = length-append xs cs ∙ ap₂ ◌+◌ (length-head 1 (sizes s)) (length-counts s) in
-      let n₂ : length ((xs ++ cs) ++ rs) ≡ 52 + 48 * rows s = length-append (xs ++ cs) rs ∙ ap₂ ◌+◌ n₁ (length-rows c) in
-      write-next l 0 (52 + 48 * rows s) ((xs ++ cs) ++ rs) ps (write-next l 0 52 (xs ++ cs) rs e n₁ f) n₂ (rw zero-add g)
-      ∙ ap (write l 0) (append_assoc (xs ++ cs) rs ps ∙ append_assoc xs cs (rs ++ ps) ∙ sym (image-parts c))
+doubles-part : (xs : List Float) (a n : ℕ) → a + n ≤ length xs → doubles (part xs a n) 0 (length (part xs a n)) ≡ doubles xs a n
+doubles-part xs a n h = rw (length_part xs a n h) (run-ext n _ _ (λ i q. rw zero-add (ap double_bytes (get_or-part xs a n i nan q))))
+
+doubles-one : (xs : List Float) (a : ℕ) → double_bytes (get_or xs a nan) ≡ doubles xs a 1
+unfolding run
+doubles-one xs a = rw add-zero refl
+
+pub row-stored : (ends : List ℕ) (rays weights scales : List Float) (l a b d left : List ℕ) (r p : ℕ) → 2 * r + 2 ≤ length ends → 3 * r + 3 ≤ length rays →
+    let es = part ends (2 * r) (2 * r + 2 - 2 * r) in
+    let rs = part rays (3 * r) (3 * r + 3 - 3 * r) in
+    a ≡ write l p (wholes es 0 (length es)) → b ≡ write a (p + 8) (doubles rs 0 (length rs)) →
+    d ≡ write b (p + 32) (double_bytes (get_or weights r nan)) → left ≡ write d (p + 40) (double_bytes (get_or scales r nan)) →
+    left ≡ write l p (row_bytes ends rays weights scales r)
+unfolding row_bytes
+row-stored ends rays weights scales l a b d left r p x y e h f g =
+    let es = wholes ends (2 * r) 2 in
+    let rs = doubles rays (3 * r) 3 in
+    let ws = doubles weights r 1 in
+    let k₂ : 2 * r + 2 - 2 * r ≡ 2 = omega arith in
+    let k₃ : 3 * r + 3 - 3 * r ≡ 3 = omega arith in
+    let n₀ = length-wholes ends (2 * r) 2 in
+    let n₁ : length (es ++ rs) ≡ 32 = length-append es rs ∙ ap₂ ◌+◌ n₀ (length-doubles rays (3 * r) 3) in
+    let n₂ : length ((es ++ rs) ++ ws) ≡ 40 = length-append (es ++ rs) ws ∙ ap₂ ◌+◌ n₁ (length-doubles weights r 1) in
+    let e' : a ≡ write l p es = rw (k₂, wholes-part ends (2 * r) 2 x) at e in
+    let h' : b ≡ write a (p + 8) rs = rw (k₃, doubles-part rays (3 * r) 3 y) at h in
+    let f' : d ≡ write b (p + 32) ws = f ∙ ap (write b (p + 32)) (doubles-one weights r) in
+    let g' : left ≡ write d (p + 40) (doubles scales r 1) = g ∙ ap (write d (p + 40)) (doubles-one scales r) in
+    let q = write-next l p 8 es rs e' n₀ h' in
+    write-next l p 40 ((es ++ rs) ++ ws) (doubles scales r 1) (write-next l p 32 (es ++ rs) ws q n₁ f') n₂ g' ∙ ap (write l p) (simp append_assoc)
+
+pub image-stored : (c : Content) (l a b left : List ℕ) →
+    a ≡ write l 0 (head 1 (sizes c.shape) ++ count_bytes c.shape) →
+    b ≡ write a 52 (run (rows c.shape) (row_of c)) →
+    left ≡ write b (52 + 48 * rows c.shape) (doubles c.positions 0 (3 * c.shape.points)) →
+    left ≡ write l 0 (image c)
+image-stored c l a b left e f g =
+    let xs = head 1 (sizes c.shape) in
+    let cs = count_bytes c.shape in
+    let rs = run (rows c.shape) (row_of c) in
+    let ps = doubles c.positions 0 (3 * c.shape.points) in
+    let n₁ : length (xs ++ cs) ≡ 52 = length-append xs cs ∙ ap₂ ◌+◌ (length-head 1 (sizes c.shape)) (length-counts c.shape) in
+    let n₂ : length ((xs ++ cs) ++ rs) ≡ 52 + 48 * rows c.shape = length-append (xs ++ cs) rs ∙ ap₂ ◌+◌ n₁ (length-rows c) in
+    write-next l 0 (52 + 48 * rows c.shape) ((xs ++ cs) ++ rs) ps (write-next l 0 52 (xs ++ cs) rs e n₁ f) n₂ (rw zero-add g)
+    ∙ ap (write l 0) (append_assoc (xs ++ cs) rs ps ∙ append_assoc xs cs (rs ++ ps) ∙ sym (image-parts c))
 
 -- the image at the front, what stood behind it untouched
 pub image-front : (c : Content) (held m : List ℕ) → m ≡ write held 0 (image c) → length (image c) ≤ length held → m ≡ image c ++ drop (length (image c)) held

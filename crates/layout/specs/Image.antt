@@ -1,26 +1,8 @@
 -- The bytes of an image (document 01, 'Network image').
 use Rattle.std.specs.Prelude.{ℕ, ◌+◌, ◌*◌, List, [], ◌∷◌, ◌++◌, map, length, Float}
 use Rattle.network.specs.declared.Shape.{Shape}
+use Rattle.network.specs.Network.{Content}
 use Rattle.layout.specs.Bytes.{bytes_of, run, wholes, doubles}
-
--- what an image holds: a network without its point lists
-pub record Content : Type 0 where
-  pub shape : Shape
-  pub ends : List ℕ
-  pub rays : List Float
-  pub weights : List Float
-  pub scales : List Float
-  pub positions : List Float
-
-abbrev pub content : Shape → List ℕ → List Float → List Float → List Float → List Float → Content
-content s ends rays weights scales positions = record {
-  shape = s;
-  ends = ends;
-  rays = rays;
-  weights = weights;
-  scales = scales;
-  positions = positions;
-}
 
 -- ---- any version, any sections
 

@@ -1,36 +1,33 @@
-// Numbers that stand in bytes, the lowest byte first.
+// Numbers that stand in bytes, the lowest byte first. (A function for each width, as std has `from_le_bytes` for each.)
 ghost use Rattle.std.specs.Prelude.{◌≡◌, ◌+◌, ◌≤◌, ◌<◌, length};
 ghost use Rattle.layout.specs.Bytes.{number_at, u16_at, u32_at};
-
-fn wide(x: u8) -> usize
-    ensures { (result ≡ x) × (result < 256) }
-{
-    x as usize
-}
 
 pub fn u16_at(bytes: &[u8], p: usize) -> usize
     requires { p + 2 ≤ length bytes.now }
     ensures { (result ≡ u16_at bytes.now p) × (result < 0x1_0000) }
 {
-    let low = wide(bytes[p]);
-    let high = wide(bytes[p + 1]);
-    low + 256 * high
+    u16::from_le_bytes([bytes[p], bytes[p + 1]]) as usize
 }
 
 pub fn u32_at(bytes: &[u8], p: usize) -> usize
     requires { p + 4 ≤ length bytes.now }
     ensures { (result ≡ u32_at bytes.now p) × (result < 0x1_0000_0000) }
 {
-    let low = u16_at(bytes, p);
-    let high = u16_at(bytes, p + 2);
-    low + 0x1_0000 * high
+    u32::from_le_bytes([bytes[p], bytes[p + 1], bytes[p + 2], bytes[p + 3]]) as usize
 }
 
 pub fn u64_at(bytes: &[u8], p: usize) -> u64
     requires { p + 8 ≤ length bytes.now }
     ensures { result ≡ number_at 8 bytes.now p }
 {
-    let low = u32_at(bytes, p);
-    let high = u32_at(bytes, p + 4);
-    low as u64 + 0x1_0000_0000 * (high as u64)
+    u64::from_le_bytes([
+        bytes[p],
+        bytes[p + 1],
+        bytes[p + 2],
+        bytes[p + 3],
+        bytes[p + 4],
+        bytes[p + 5],
+        bytes[p + 6],
+        bytes[p + 7],
+    ])
 }

@@ -1,24 +1,23 @@
 // An image, stored from the front of a buffer on.
-ghost use Rattle.std.specs.Prelude.{◌++◌, ◌≡◌, ◌+◌, ◌*◌, ◌≤◌, length};
+// Each number is put at a place that is given, with no cursor and no printing of std's: the theorems name each byte of the lent buffer.
+ghost use Rattle.std.specs.Prelude.{◌++◌, ◌≡◌, ◌+◌, ◌*◌, ◌≤◌, ◌<◌, length};
 ghost use Rattle.field.specs.Buffer.{write};
 ghost use Rattle.network.specs.Network.{rows};
 ghost use Rattle.network.specs.inner.Sound.{ContentLengths};
 ghost use Rattle.layout.specs.Bytes.{bytes_of, double_bytes, run, wholes, doubles, total};
-ghost use Rattle.layout.specs.Image.{content, head_size, pairs, head, count_bytes, row_bytes, sizes as sizes_of, image};
+ghost use Rattle.layout.specs.Image.{head_size, pairs, head, count_bytes, row_of, sizes as sizes_of, image};
 
 use double::to_bits;
 use network::Shape;
+use network::lent::Content;
 
 // The `count` lowest bytes of a number.
 fn put_number(value: u64, count: usize, out: &mut [u8], at: usize)
-    requires { at + count ≤ length out.old }
+    requires value_in_bounds { count ≤ 8 }
+    requires out_in_bounds { at + count ≤ length out.old }
     ensures { out.new ≡ write out.old at (bytes_of count value) }
 {
-    let mut rest = value;
-    for byte in out[at..at + count].iter_mut() {
-        *byte = (rest % 256) as u8;
-        rest /= 256;
-    }
+    out[at..at + count].copy_from_slice(&value.to_le_bytes()[..count]);
 }
 
 fn put_double(value: f64, out: &mut [u8], at: usize)
@@ -28,78 +27,49 @@ fn put_double(value: f64, out: &mut [u8], at: usize)
     put_number(to_bits(value), 8, out, at);
 }
 
-// `count` numbers of a list, from number `from` on, four bytes each.
-fn put_wholes(list: &[usize], from: usize, count: usize, out: &mut [u8], at: usize)
-    requires count_in_bounds { from + count ≤ length list.now }
-    requires out_in_bounds { at + 4 * count ≤ length out.old }
-    ensures { out.new ≡ write out.old at (wholes list.now from count) }
+// Apart, not one function of a closure: what the closure stores of a number would have to be said in the contract, which is longer than both.
+// The numbers of a list, four bytes each.
+fn put_wholes(list: &[usize], out: &mut [u8], at: usize)
+    requires { at + 4 * length list.now ≤ length out.old }
+    ensures { out.new ≡ write out.old at (wholes list.now 0 (length list.now)) }
 {
-    for (i, x) in list[from..from + count].iter().enumerate() {
+    for (i, x) in list.iter().enumerate() {
         put_number(*x as u64, 4, out, at + 4 * i);
     }
 }
 
-// `count` doubles of a list, from number `from` on.
-fn put_doubles(list: &[f64], from: usize, count: usize, out: &mut [u8], at: usize)
-    requires count_in_bounds { from + count ≤ length list.now }
-    requires out_in_bounds { at + 8 * count ≤ length out.old }
-    ensures { out.new ≡ write out.old at (doubles list.now from count) }
+// The doubles of a list.
+fn put_doubles(list: &[f64], out: &mut [u8], at: usize)
+    requires { at + 8 * length list.now ≤ length out.old }
+    ensures { out.new ≡ write out.old at (doubles list.now 0 (length list.now)) }
 {
-    for (i, x) in list[from..from + count].iter().enumerate() {
+    for (i, x) in list.iter().enumerate() {
         put_double(*x, out, at + 8 * i);
     }
 }
 
-// The ends and the ray of row r.
-fn put_ends_and_ray(ends: &[usize], rays: &[f64], r: usize, out: &mut [u8], at: usize)
-    requires r_in_bounds { (2 * r + 2 ≤ length ends.now) × (3 * r + 3 ≤ length rays.now) }
-    requires at_in_bounds { at + 32 ≤ length out.old }
-    ensures { out.new ≡ write out.old at
-        (wholes ends.now (2 * r) 2 ++ doubles rays.now (3 * r) 3) }
-{
-    put_wholes(ends, 2 * r, 2, out, at);
-    put_doubles(rays, 3 * r, 3, out, at + 8);
-}
-
-// Row r: its ends, ray, weight and scale.
-fn put_row(
-    ends: &[usize],
-    rays: &[f64],
-    weights: &[f64],
-    scales: &[f64],
-    r: usize,
-    out: &mut [u8],
-    at: usize,
-)
-    requires r_in_bounds { (2 * r + 2 ≤ length ends.now) × (3 * r + 3 ≤ length rays.now) }
-    requires weights_in_bounds { (r + 1 ≤ length weights.now) × (r + 1 ≤ length scales.now) }
+// Row r: its ends, ray, weight and scale. (That the content's slices have their lengths is asked by three functions: as a type it would be made for one.)
+fn put_row(c: &Content<'_>, r: usize, out: &mut [u8], at: usize)
+    requires content_lengths { let n = c.now in ContentLengths n.shape n.ends n.rays n.weights n.scales n.positions }
+    requires r_lt_rows { r < rows c.now.shape }
     requires at_in_bounds { at + 48 ≤ length out.old }
-    ensures { out.new ≡ write out.old at
-        (row_bytes ends.now rays.now weights.now scales.now r) }
+    ensures { out.new ≡ write out.old at (row_of c.now r) }
 {
-    put_ends_and_ray(ends, rays, r, out, at);
-    put_doubles(weights, r, 1, out, at + 32);
-    put_doubles(scales, r, 1, out, at + 40);
+    put_wholes(&c.ends[2 * r..2 * r + 2], out, at);
+    put_doubles(&c.rays[3 * r..3 * r + 3], out, at + 8);
+    put_double(c.weights[r], out, at + 32);
+    put_double(c.scales[r], out, at + 40);
 }
 
-// The first `count` rows.
-fn put_rows(
-    ends: &[usize],
-    rays: &[f64],
-    weights: &[f64],
-    scales: &[f64],
-    count: usize,
-    out: &mut [u8],
-    at: usize,
-)
-    requires count_in_bounds { (2 * count ≤ length ends.now) × (3 * count ≤ length rays.now) }
-    requires weights_in_bounds { (count ≤ length weights.now) × (count ≤ length scales.now) }
-    requires out_in_bounds { at + 48 * count ≤ length out.old }
-    ensures { out.new ≡ write out.old at
-        (run count (row_bytes ends.now rays.now weights.now scales.now)) }
+// The rows, one after another.
+fn put_rows(c: &Content<'_>, out: &mut [u8], at: usize)
+    requires content_lengths { let n = c.now in ContentLengths n.shape n.ends n.rays n.weights n.scales n.positions }
+    requires rows_in_bounds { at + 48 * rows c.now.shape ≤ length out.old }
+    ensures { out.new ≡ write out.old at (run (rows c.now.shape) (row_of c.now)) }
 {
-    for r in 0..count {
-        put_row(ends, rays, weights, scales, r, out, at + 48 * r);
+    let s = c.shape();
+    for r in 0..s.bearings + s.directions {
+        put_row(c, r, out, at + 48 * r);
     }
 }
 
@@ -135,34 +105,33 @@ fn put_head(version: usize, sizes: &[usize], out: &mut [u8])
     put_pairs(4 + 8 * sizes.len(), sizes, out, 4);
 }
 
+// How long each section of the image of a network of shape s is.
+pub fn sizes(s: Shape) -> [usize; 4]
+    requires { 48 * rows s + 24 * s.points < 0x1_0000_0000_0000_0000 }
+    ensures { result ≡ sizes_of s }
+{
+    [16, 48 * s.bearings, 48 * s.directions, 24 * s.points]
+}
+
 // The head of the image of a network of shape s, and its counts.
 fn put_front(s: Shape, out: &mut [u8])
     requires { 52 + 48 * rows s + 24 * s.points ≤ length out.old }
     ensures { out.new ≡ write out.old 0 (head 1 (sizes_of s) ++ count_bytes s) }
 {
-    let sizes = [16, 48 * s.bearings, 48 * s.directions, 24 * s.points];
-    put_head(1, &sizes, out);
+    put_head(1, &sizes(s), out);
     let counts = [s.cameras, s.points, s.bearings, s.directions];
-    put_wholes(&counts, 0, 4, out, 36);
+    put_wholes(&counts, out, 36);
 }
 
-// The image of a network, at the front of `out`.
-pub fn put_image(
-    s: Shape,
-    ends: &[usize],
-    rays: &[f64],
-    weights: &[f64],
-    scales: &[f64],
-    points: &[f64],
-    out: &mut [u8],
-)
-    requires content_lengths { ContentLengths s ends.now rays.now weights.now scales.now points.now }
-    requires points_in_bounds { 52 + 48 * rows s + 24 * s.points ≤ length out.old }
-    ensures { out.new ≡ write out.old 0 (image (content s
-        ends.now rays.now weights.now scales.now points.now)) }
+// The image of what is lent, at the front of `out`.
+pub fn put_image(c: &Content<'_>, out: &mut [u8])
+    requires content_lengths { let n = c.now in ContentLengths n.shape n.ends n.rays n.weights n.scales n.positions }
+    requires points_in_bounds { 52 + 48 * rows c.now.shape + 24 * c.now.shape.points ≤ length out.old }
+    ensures { out.new ≡ write out.old 0 (image c.now) }
 {
-    let count = s.bearings + s.directions;
+    let s = c.shape();
     put_front(s, out);
-    put_rows(ends, rays, weights, scales, count, out, 52);
-    put_doubles(points, 0, 3 * s.points, out, 52 + 48 * count);
+    put_rows(c, out, 52);
+    let behind = 52 + 48 * (s.bearings + s.directions);
+    put_doubles(c.points, out, behind);
 }

@@ -1,22 +1,15 @@
 // Calls the tests 1 to 8 and the graph calls on good and bad input at the limits and prints number and place of each refusal.
 // What it must print is the file `stdout`.
+// Printed by io's functions: `println!` takes the runtime, a handle that the program needs for nothing else.
 #![tactic(auto)]
 
 mod stages;
 
 use io::{print_decimal, write_all};
+use network::lent::Network;
 use network::{Refusal, Shape, check_counts};
-use stages::{Lent, check_solve, check_step};
+use stages::{check_solve, check_step};
 use system::work::work_length;
-
-fn shape(n: usize, m: usize, b: usize, e: usize) -> Shape {
-    Shape {
-        cameras: n,
-        points: m,
-        bearings: b,
-        directions: e,
-    }
-}
 
 fn number(x: usize) {
     print_decimal(1, x as u64);
@@ -60,7 +53,7 @@ fn length(n: usize, route: usize, limit: usize) {
     write_all(1, b" limit ");
     number(limit);
     write_all(1, b": ");
-    match work_length(shape(n, 2, 3, 1), route, limit) {
+    match work_length(Shape::new(n, 2, 3, 1), route, limit) {
         Err(r) => refusal(r),
         Ok(t) => number(t),
     }
@@ -78,8 +71,9 @@ const SCALES: [f64; 4] = [1.0, 1.0, 1.0, 1.0];
 
 const POINTS: [f64; 6] = [5.0, 5.0, 5.0, 6.0, 6.0, 6.0];
 
-fn good<'a>() -> Lent<'a> {
-    Lent {
+fn good<'a>() -> Network<'a> {
+    Network {
+        shape: Shape::new(3, 2, 3, 1),
         ends: &ENDS,
         rays: &RAYS,
         weights: &WEIGHTS,
@@ -91,13 +85,13 @@ fn good<'a>() -> Lent<'a> {
 }
 
 // 1 to 8 of the good network, changed so.
-fn solve<'a, F: FnOnce(&mut Lent<'a>)>(name: &[u8], route: usize, limit: usize, change: F)
+fn solve<'a, F: FnOnce(&mut Network<'a>)>(name: &[u8], route: usize, limit: usize, change: F)
     requires { F.IsAlwaysCallable change }
 {
-    let mut l = good();
-    change(&mut l);
+    let mut net = good();
+    change(&mut net);
     let mut marks = [7usize; 3];
-    let v = check_solve(shape(3, 2, 3, 1), l, &mut marks, route, limit);
+    let v = check_solve(&net, &mut marks, route, limit);
     marked(name, v, &marks);
 }
 
@@ -109,51 +103,53 @@ fn changed<T: Copy, const N: usize>(mut list: [T; N], at: usize, x: T) -> [T; N]
     list
 }
 
+// Each of these changes a list of its own: one function of them all would be told the list and the field at every call.
+
 fn with_end(name: &[u8], at: usize, x: usize) {
     let ends = changed(ENDS, at, x);
-    solve(name, 1, 2, |l| l.ends = &ends);
+    solve(name, 1, 2, |net| net.ends = &ends);
 }
 
 fn with_weight(name: &[u8], x: f64) {
     let weights = changed(WEIGHTS, 2, x);
-    solve(name, 2, 0, |l| l.weights = &weights);
+    solve(name, 2, 0, |net| net.weights = &weights);
 }
 
 fn with_scale(name: &[u8], x: f64) {
     let scales = changed(SCALES, 3, x);
-    solve(name, 2, 0, |l| l.scales = &scales);
+    solve(name, 2, 0, |net| net.scales = &scales);
 }
 
 fn with_ray(name: &[u8], at: usize, x: f64) {
     let rays = changed(RAYS, at, x);
-    solve(name, 2, 0, |l| l.rays = &rays);
+    solve(name, 2, 0, |net| net.rays = &rays);
 }
 
 fn with_point(name: &[u8], at: usize, x: f64) {
     let points = changed(POINTS, at, x);
-    solve(name, 2, 0, |l| l.points = &points);
+    solve(name, 2, 0, |net| net.points = &points);
 }
 
 fn with_lists(name: &[u8], offsets: &[usize], listed: &[usize]) {
-    solve(name, 2, 0, |l| {
-        l.offsets = offsets;
-        l.listed = listed;
+    solve(name, 2, 0, |net| {
+        net.offsets = offsets;
+        net.listed = listed;
     });
 }
 
-// 1 to 7 of such slices.
-fn step(name: &[u8], l: Lent, marks: &mut [usize]) {
-    let v = check_step(shape(3, 2, 3, 1), l, marks);
+// 1 to 7 of such a network.
+fn step(name: &[u8], net: &Network<'_>, marks: &mut [usize]) {
+    let v = check_step(net, marks);
     marked(name, v, marks);
 }
 
 // 1 to 7 of the good network, changed so.
-fn with<'a, F: FnOnce(&mut Lent<'a>)>(name: &[u8], change: F)
+fn with<'a, F: FnOnce(&mut Network<'a>)>(name: &[u8], change: F)
     requires { F.IsAlwaysCallable change }
 {
-    let mut l = good();
-    change(&mut l);
-    step(name, l, &mut [7usize; 3]);
+    let mut net = good();
+    change(&mut net);
+    step(name, &net, &mut [7usize; 3]);
 }
 
 // A graph of n cameras, the direction 0-1 of weight 1 and 1-2 of weight v.
@@ -162,7 +158,7 @@ fn connectivity(name: &[u8], n: usize, v: f64, nodes: &mut [usize]) {
     let weights = [1.0, v];
     write_all(1, name);
     write_all(1, b": ");
-    match graph::is_connected(shape(n, 0, 0, 2), &ends, &weights, nodes) {
+    match graph::is_connected(Shape::new(n, 0, 0, 2), &ends, &weights, nodes) {
         Err(r) => refusal(r),
         Ok(true) => {
             write_all(1, b"connected");
@@ -191,7 +187,7 @@ fn listing(name: &[u8], nodes: &mut [usize], labels: &mut [usize]) {
     let weights = [1.0, 0.0];
     write_all(1, name);
     write_all(1, b": ");
-    match graph::parts(shape(3, 0, 0, 2), &ends, &weights, nodes, labels) {
+    match graph::parts(Shape::new(3, 0, 0, 2), &ends, &weights, nodes, labels) {
         Err(r) => refusal(r),
         Ok(parts) => {
             write_all(1, b"parts ");
@@ -224,39 +220,44 @@ fn lengths() {
 }
 
 fn counts() {
-    verdict(b"n 0", check_counts(shape(0, 0, 0, 0)));
-    verdict(b"n 1", check_counts(shape(1, 0, 0, 0)));
-    verdict(b"n 4096", check_counts(shape(4096, 65536, 262144, 65536)));
-    verdict(b"n 4097", check_counts(shape(4097, 65537, 0, 0)));
-    verdict(b"m 65537", check_counts(shape(1, 65537, 0, 0)));
-    verdict(b"B 262145", check_counts(shape(1, 0, 262145, 0)));
-    verdict(b"E 65537", check_counts(shape(1, 0, 0, 65537)));
+    verdict(b"n 0", check_counts(Shape::new(0, 0, 0, 0)));
+    verdict(b"n 1", check_counts(Shape::new(1, 0, 0, 0)));
+    verdict(
+        b"n 4096",
+        check_counts(Shape::new(4096, 65536, 262144, 65536)),
+    );
+    verdict(b"n 4097", check_counts(Shape::new(4097, 65537, 0, 0)));
+    verdict(b"m 65537", check_counts(Shape::new(1, 65537, 0, 0)));
+    verdict(b"B 262145", check_counts(Shape::new(1, 0, 262145, 0)));
+    verdict(b"E 65537", check_counts(Shape::new(1, 0, 0, 65537)));
     verdict(
         b"n largest",
-        check_counts(shape(0xffff_ffff_ffff_ffff, 0, 0, 0)),
+        check_counts(Shape::new(0xffff_ffff_ffff_ffff, 0, 0, 0)),
     );
 }
 
+// Each case names its own list and length, so `short` and `long` are two tables.
+
 fn short() {
-    with(b"ends one short", |l| l.ends = &[0usize; 7]);
-    with(b"rays one short", |l| l.rays = &[0.0; 11]);
-    with(b"weights one short", |l| l.weights = &[1.0; 3]);
-    with(b"scales one short", |l| l.scales = &[1.0; 3]);
-    with(b"points one short", |l| l.points = &[0.0; 5]);
-    with(b"offsets one short", |l| l.offsets = &[0usize; 2]);
-    with(b"listed one short", |l| l.listed = &[0usize; 2]);
-    step(b"marks one short", good(), &mut [7usize; 2]);
+    with(b"ends one short", |net| net.ends = &[0usize; 7]);
+    with(b"rays one short", |net| net.rays = &[0.0; 11]);
+    with(b"weights one short", |net| net.weights = &[1.0; 3]);
+    with(b"scales one short", |net| net.scales = &[1.0; 3]);
+    with(b"points one short", |net| net.points = &[0.0; 5]);
+    with(b"offsets one short", |net| net.offsets = &[0usize; 2]);
+    with(b"listed one short", |net| net.listed = &[0usize; 2]);
+    step(b"marks one short", &good(), &mut [7usize; 2]);
 }
 
 fn long() {
-    with(b"ends one long", |l| l.ends = &[0usize; 9]);
-    with(b"rays one long", |l| l.rays = &[0.0; 13]);
-    with(b"weights one long", |l| l.weights = &[1.0; 5]);
-    with(b"scales one long", |l| l.scales = &[1.0; 5]);
-    with(b"points one long", |l| l.points = &[0.0; 7]);
-    with(b"offsets one long", |l| l.offsets = &[0usize; 4]);
-    with(b"listed one long", |l| l.listed = &[0usize; 4]);
-    step(b"marks one long", good(), &mut [7usize; 4]);
+    with(b"ends one long", |net| net.ends = &[0usize; 9]);
+    with(b"rays one long", |net| net.rays = &[0.0; 13]);
+    with(b"weights one long", |net| net.weights = &[1.0; 5]);
+    with(b"scales one long", |net| net.scales = &[1.0; 5]);
+    with(b"points one long", |net| net.points = &[0.0; 7]);
+    with(b"offsets one long", |net| net.offsets = &[0usize; 4]);
+    with(b"listed one long", |net| net.listed = &[0usize; 4]);
+    step(b"marks one long", &good(), &mut [7usize; 4]);
 }
 
 fn rows() {

@@ -1,21 +1,18 @@
 -- The tests of the lengths, made so that no sum or product wraps, and what a call that passes has shown. Assumes nothing.
 use Rattle.network.specs.declared.Cause.TheVariants.{OutOfRange}
-use Rattle.std.proofs.Common.{Err, None, Ok, Some}
+use Rattle.std.proofs.Common.{Err, Ok}
 use mathlib.Core.Path.{◌≡◌, refl, sym, ap, ◌∙◌}
 use mathlib.Core.List.{List}
 use mathlib.Core.Bool.{Bool, true, false}
-use Prim.Native.Nat.{ℕ, ◌+◌, ◌-◌, ◌*◌, ◌/◌, ◌≤◌, ◌<◌}
-use native.Mathlib.Numerals.{add-one}
+use Prim.Native.Nat.{ℕ, ◌+◌, ◌*◌, ◌/◌, ◌≤◌}
 use native.Mathlib.Omega.{arith}
 use lib.ListN.{length}
 use lib.Dec.{eqb, leb}
-use borrow.Author.Tests.{leb-true, leb-false, eqb-true, eqb-false, le-leb, lt-leb, eq-eqb, ne_eqb}
+use borrow.Author.Tests.{leb-true, leb-false, eqb-true, le-leb, lt-leb}
 use Rattle.double.proofs.Truth.{both_true}
-use Rattle.field.specs.Count.{lowest}
-use Rattle.field.proofs.Counting.{none_of, lowest-more, lowest-found}
+use Rattle.field.proofs.Counting.{none_of}
 use Rattle.network.specs.declared.Refusal.{Refusal}
 use Rattle.network.specs.Refusals.{Verdict}
-use Rattle.network.specs.Network.{second_end}
 use Rattle.network.specs.Refusals.{verdict, length_tests}
 use Rattle.network.proofs.Verdicts.{stage-passed, verdict-one, test-at-passed}
 use Rattle.network.proofs.Sound.{lengths-fit, measured}
@@ -29,16 +26,6 @@ half-test b k = go (leb (2 * b) k) refl
     go true e = le-leb b (k / 2) (omega (arith, leb-true (2 * b) k e))
     go false e = lt-leb b (k / 2) (omega (arith, leb-false (2 * b) k e))
 
-pub none-next : (m : ℕ) {k : ℕ} → k ≡ 0 → false ≡ eqb k (m + 1)
-none-next m {k} e = sym (ne_eqb k (m + 1) (λ f. omega arith))
-
-pub next-test : (k m : ℕ) → (k ≡ 0 → ⊥) → eqb (k - 1) m ≡ eqb k (m + 1)
-next-test k m h = go (eqb k (m + 1)) refl
-  where
-    go : (t : Bool) → eqb k (m + 1) ≡ t → eqb (k - 1) m ≡ t
-    go true e = eq-eqb (k - 1) m (omega (arith, eqb-true k (m + 1) e))
-    go false e = ne_eqb (k - 1) m (λ f. eqb-false k (m + 1) e (omega arith))
-
 -- lengths that fit
 lengths-hold : (m b ends offsets listed : ℕ) → lengths_fit m b ends offsets listed ≡ true → (2 * b ≤ ends) × (offsets ≡ m + 1) × (listed ≡ b)
 unfolding lengths_fit
@@ -46,16 +33,6 @@ lengths-hold m b ends offsets listed e =
     let h = both_true (leb (2 * b) ends) _ e in
     let k = both_true (eqb offsets (m + 1)) (eqb listed b) h.1 in
     (leb-true _ _ h.0, eqb-true _ _ k.0, eqb-true _ _ k.1)
-
--- ---- the lowest row whose point is out of range, looked for row by row: found, not yet, nowhere
-
-module _ (m : ℕ) (ends : List ℕ) (r : ℕ) (n : lowest (past_points m ends) r ≡ None) where
-  pub past_more : second_end ends r < m → lowest (past_points m ends) (r + 1) ≡ None
-  unfolding past_points
-  past_more h = rw (add-one r) (lowest-more _ _ n (lt-leb _ _ h))
-
-  pub past-none : {b : ℕ} → r ≤ b → b ≤ r → None ≡ lowest (past_points m ends) b
-  past-none {b} h l = let e : r ≡ b = omega arith in sym (rw e at n)
 
 -- ---- the tests, one after another
 

@@ -1,5 +1,6 @@
 // Refusals 3 and 4 of the call.
-ghost use Rattle.std.specs.Prelude.{◌≡◌, ◌+◌, ◌*◌, ◌≤◌, length, eqb, leb};
+// m, b and `ends` come one by one, as the caller lends them: a struct of what is not tested yet would be made for these tests alone.
+ghost use Rattle.std.specs.Prelude.{◌≡◌, ◌*◌, ◌≤◌, length};
 ghost use Rattle.field.specs.Count.{lowest};
 ghost use Rattle.network.specs.Refusals.{verdict};
 ghost use Rattle.lists.specs.PointLists.{lengths_fit, past_points, point_lists_tests};
@@ -8,28 +9,11 @@ use network::answers::refused_at;
 use network::lengths::check_lengths;
 use network::{Cause, Refusal};
 
-// Whether 2 b is at most k, for any b.
-fn holds(k: usize, b: usize) -> bool
-    ensures { result ≡ leb (2 * b) k }
-{
-    b <= k / 2
-}
-
-// Whether k is m + 1, for any m.
-fn is_next(k: usize, m: usize) -> bool
-    ensures { result ≡ eqb k (m + 1) }
-{
-    if k == 0 {
-        return false;
-    }
-    k - 1 == m
-}
-
-// Whether the slices have the lengths that the counts say.
+// Whether the slices have the lengths that the counts say, for any counts: 2 b and m + 1 may be past the largest usize.
 fn lengths_fit(m: usize, b: usize, ends: usize, offsets: usize, listed: usize) -> bool
     ensures { result ≡ lengths_fit m b ends offsets listed }
 {
-    holds(ends, b) & is_next(offsets, m) & (listed == b)
+    (b <= ends / 2) & (m.checked_add(1) == Some(offsets)) & (listed == b)
 }
 
 // The lowest of b rows whose point number is not below m.

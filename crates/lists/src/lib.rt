@@ -8,7 +8,7 @@ ghost use Rattle.lists.specs.PointLists.{PointListsCall};
 
 use entry::check;
 use network::Refusal;
-use sort::sort_rows;
+use sort::{Bearings, sort_rows};
 
 // Fills the m + 1 offsets and the b row numbers of the point lists. `ends` holds camera and point of each bearing,
 // and may hold directions after them.
@@ -23,6 +23,7 @@ pub fn list_points(
         offsets.new listed.new }
 {
     check(m, b, ends, offsets.len(), listed.len())?;
-    sort_rows(m, b, ends, offsets, listed);
+    let rows = Bearings::new(m, b, ends);
+    sort_rows(&rows, offsets, listed);
     Ok(())
 }

@@ -1,13 +1,12 @@
 -- The marks: what they hold before, between and after the places of the lists. Assumes nothing.
 use Prim.Native.Nat.{ℕ, ◌+◌, ◌≤◌, ◌<◌}
 use mathlib.Core.Path.{◌≡◌, refl, sym, ap, ◌∙◌}
-use mathlib.Core.List.{List, ◌++◌}
+use mathlib.Core.List.{List}
 use mathlib.Core.Bool.{Bool, true, false, not, true≢false}
 use native.Mathlib.Omega.{arith}
-use lib.ListN.{drop, get_or, length, replicate, set}
+use lib.ListN.{get_or, length, replicate, set}
 use borrow.Author.Tests.{le-leb, lt-leb, eq-eqb, ne_eqb}
 use Rattle.field.specs.Count.{field}
-use Rattle.field.proofs.Buffers.{fill-whole}
 use Rattle.field.proofs.Counting.{get_or-field, field-same, length-field, set-field}
 use Rattle.network.specs.Lists.{named}
 use Rattle.network.specs.Network.{second_end}
@@ -22,13 +21,10 @@ module _ {b : ℕ} {listed marks : List ℕ} where
   pub marks-at : {fit x : Bool} {k j : ℕ} → Marked b listed fit k marks → fit ≡ x → k ≡ j → Marked b listed x j marks
   marks-at M e f = rw (← e, ← f) M
 
-pub marks-cleared : (b : ℕ) (marks marks' : List ℕ) → length marks ≡ b → marks' ≡ replicate b 0 ++ drop b marks → marks' ≡ replicate b 0
-marks-cleared b marks marks' h e = e ∙ fill-whole b 0 marks h
-
 -- before the first place
-pub marks-none : (b : ℕ) (listed marks marks' : List ℕ) → length marks ≡ b → marks' ≡ replicate b 0 ++ drop b marks → Marked b listed true 0 marks'
-marks-none b listed marks marks' h e =
-    let g : marks' ≡ field b (λ r. named listed r 0) = marks-cleared b marks marks' h e ∙ sym (field-same b _ 0 (λ r. named-zero listed r)) in
+pub marks-none : (b : ℕ) (listed marks : List ℕ) {n : ℕ} → n ≡ b → marks ≡ replicate n 0 → Marked b listed true 0 marks
+marks-none b listed marks h e =
+    let g : marks ≡ field b (λ r. named listed r 0) = e ∙ ap (λ m. replicate m 0) h ∙ sym (field-same b _ 0 (λ r. named-zero listed r)) in
     record { size = ap length g ∙ length-field b _; counts = λ q. g }
 
 -- ---- the row at place k, under point p

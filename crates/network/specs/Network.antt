@@ -41,6 +41,28 @@ network s ends rays weights scales positions offsets listed = record {
   listed = listed;
 }
 
+-- what an image holds: a network without its point lists
+pub record Content : Type 0 where
+  pub shape : Shape
+  pub ends : List ℕ
+  pub rays : List Float
+  pub weights : List Float
+  pub scales : List Float
+  pub positions : List Float
+
+abbrev pub content : Shape → List ℕ → List Float → List Float → List Float → List Float → Content
+content s ends rays weights scales positions = record {
+  shape = s;
+  ends = ends;
+  rays = rays;
+  weights = weights;
+  scales = scales;
+  positions = positions;
+}
+
+abbrev pub content_of : Network → Content
+content_of net = content net.shape net.ends net.rays net.weights net.scales net.positions
+
 -- The rows' ends.
 pub record RowEnds : Type 0 where
   pub shape : Shape

@@ -6,22 +6,25 @@ pub mod domain;
 pub mod ends;
 pub mod graph;
 pub mod lengths;
+pub mod lent;
 pub mod links;
 mod lists;
 pub mod route;
 
 ghost use Rattle.std.specs.Prelude.{◌≡◌, [], ◌∷◌, length, ◌+◌, ◌*◌};
-ghost use Rattle.network.specs.Network.{graph, network, rows};
+ghost use Rattle.network.specs.Network.{graph, rows, shape};
 ghost use Rattle.network.specs.Refusals.{number, verdict, count_tests, end_tests, link_tests, graph_row_tests, network_row_tests, marks_after};
 ghost use Rattle.network.specs.Refusals.{section, bad_vector};
 ghost use Rattle.network.specs.inner.Sound.{ShapeSound, NetworkLengths};
 
-use answers::refused_if;
-use domain::{check_domain, check_placed_domain, check_weights};
+use answers::{refused_at, refused_if};
+use domain::{check_domain, check_placed_domain, find_bad_weight};
 use ends::check_ends;
+use lent::Network;
 use lists::check_lists;
 
-// The four counts: cameras n, points m, bearings B, directions E.
+// The four counts: cameras n, points m, bearings B, directions E. That they passed 1 and 2 is `ShapeSound`, asked where a function needs it:
+// the definitions speak of a `Shape`, and a second type with the same four counts would need a conversion at each of them.
 #[derive(Clone, Copy)]
 pub struct Shape {
     pub cameras: usize,
@@ -30,7 +33,20 @@ pub struct Shape {
     pub directions: usize,
 }
 
-// Places of the point lists: so many, from the first on.
+impl Shape {
+    pub fn new(cameras: usize, points: usize, bearings: usize, directions: usize) -> Shape
+        ensures { result ≡ shape cameras points bearings directions }
+    {
+        Shape {
+            cameras,
+            points,
+            bearings,
+            directions,
+        }
+    }
+}
+
+// Places of the point lists: so many, from the first on. (Not the part of the slice itself: `Links::listed` tells with each read that the bearing is in range.)
 #[derive(Clone, Copy)]
 pub struct Span {
     pub first: usize,
@@ -83,6 +99,7 @@ pub enum Cause {
 }
 
 impl Cause {
+    // (No `From`: the name says what the number is.)
     pub fn number(self) -> usize
         ensures { result ≡ number self }
     {
@@ -116,10 +133,10 @@ pub fn check_graph_rows(s: Shape, ends: &[usize], weights: &[f64]) -> Result<(),
     ensures { result ≡ verdict (graph_row_tests (graph s ends.now weights.now)) }
 {
     check_ends(s, ends)?;
-    check_weights(s, weights)
+    refused_at(Cause::Domain, find_bad_weight(weights))
 }
 
-// 4 to 6. Once 6 has been tested, the marks are all zero.
+// 4 to 6. Once 6 has been tested, the marks are all zero. (The slices one by one: a `Network` would ask for three more than are read.)
 pub fn check_links(
     s: Shape,
     ends: &[usize],
@@ -138,53 +155,35 @@ pub fn check_links(
     check_lists(s, ends, offsets, listed, marks)
 }
 
-// 4 to 7 of the whole network.
-pub fn check_network_rows(
-    s: Shape,
-    ends: &[usize],
-    rays: &[f64],
-    weights: &[f64],
-    scales: &[f64],
-    points: &[f64],
-    offsets: &[usize],
-    listed: &[usize],
-    marks: &mut [usize],
-) -> Result<(), Refusal>
-    requires shape_sound { ShapeSound s }
-    requires network_lengths { NetworkLengths (network s ends.now rays.now weights.now scales.now points.now offsets.now listed.now) }
-    requires marks_len { length marks.old ≡ s.bearings }
+// 4 to 7 of the whole network. (With the cameras of the next function as an `Option`, each contract here and in domain.rt would match on it, and each body too.
+// Both ask what 1 to 3 have shown: a type for that would be made for this one call.)
+pub fn check_network_rows(net: &Network<'_>, marks: &mut [usize]) -> Result<(), Refusal>
+    requires shape_sound { ShapeSound net.now.shape }
+    requires network_lengths { NetworkLengths net.now }
+    requires marks_len { length marks.old ≡ net.now.shape.bearings }
     ensures value { result ≡ verdict (network_row_tests
-        (network s ends.now rays.now weights.now scales.now points.now
-        offsets.now listed.now)
+        net.now
         []) }
-    ensures marks_after { marks.new ≡ marks_after (verdict (end_tests s ends.now)) s.bearings marks.old }
+    ensures marks_after { marks.new ≡ marks_after (verdict (end_tests net.now.shape net.now.ends)) net.now.shape.bearings marks.old }
 {
-    check_links(s, ends, offsets, listed, marks)?;
-    check_domain(s, rays, weights, scales, points)
+    check_links(net.shape, net.ends, net.offsets, net.listed, marks)?;
+    check_domain(&net.content())
 }
 
 // 4 to 7 of the whole network and of n camera positions.
 pub fn check_placed_rows(
-    s: Shape,
-    ends: &[usize],
-    rays: &[f64],
-    weights: &[f64],
-    scales: &[f64],
-    points: &[f64],
-    offsets: &[usize],
-    listed: &[usize],
+    net: &Network<'_>,
     marks: &mut [usize],
     cameras: &[f64],
 ) -> Result<(), Refusal>
-    requires shape_sound { ShapeSound s }
-    requires network_lengths { NetworkLengths (network s ends.now rays.now weights.now scales.now points.now offsets.now listed.now) }
-    requires marks_len { (length marks.old ≡ s.bearings) × (length cameras.now ≡ 3 * s.cameras) }
+    requires shape_sound { ShapeSound net.now.shape }
+    requires network_lengths { NetworkLengths net.now }
+    requires marks_len { (length marks.old ≡ net.now.shape.bearings) × (length cameras.now ≡ 3 * net.now.shape.cameras) }
     ensures value { result ≡ verdict (network_row_tests
-        (network s ends.now rays.now weights.now scales.now points.now
-        offsets.now listed.now)
-        (section s.cameras (bad_vector cameras.now) ∷ [])) }
-    ensures marks_after { marks.new ≡ marks_after (verdict (end_tests s ends.now)) s.bearings marks.old }
+        net.now
+        (section net.now.shape.cameras (bad_vector cameras.now) ∷ [])) }
+    ensures marks_after { marks.new ≡ marks_after (verdict (end_tests net.now.shape net.now.ends)) net.now.shape.bearings marks.old }
 {
-    check_links(s, ends, offsets, listed, marks)?;
-    check_placed_domain(s, rays, weights, scales, points, cameras)
+    check_links(net.shape, net.ends, net.offsets, net.listed, marks)?;
+    check_placed_domain(&net.content(), cameras)
 }

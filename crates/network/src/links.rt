@@ -1,37 +1,10 @@
-// What the rows tie together, read with its range.
+// What the rows tie together, as types: a value stands for slices that passed their tests. Each read tells its range.
 ghost use Rattle.std.specs.Prelude.{◌≡◌, ◌+◌, ◌*◌, ◌<◌, ◌≤◌, get_or};
 ghost use Rattle.network.specs.Network.{first_end, second_end, span_of, rows, row_ends, links as links_of};
 ghost use Rattle.network.specs.inner.Sound.{ShapeSound, EndsSound, ListedSound, OffsetsSound, LinksSound};
 
 use crate::{Shape, Span};
 use std::marker::Model;
-
-// The camera of a bearing, the source of a direction.
-pub fn camera_of(s: Shape, ends: &[usize], r: usize) -> usize
-    requires ends_sound { EndsSound s ends.now }
-    requires r_bound { r < rows s }
-    ensures { (result ≡ first_end ends.now r) × (result < s.cameras) }
-{
-    ends[2 * r]
-}
-
-// The point of a bearing.
-pub fn point_of(s: Shape, ends: &[usize], r: usize) -> usize
-    requires ends_sound { EndsSound s ends.now }
-    requires r_lt_bearings { r < s.bearings }
-    ensures { (result ≡ second_end ends.now r) × (result < s.points) }
-{
-    ends[2 * r + 1]
-}
-
-// The target of a direction.
-pub fn target_of(s: Shape, ends: &[usize], r: usize) -> usize
-    requires ends_sound { EndsSound s ends.now }
-    requires bearings_le_r { (s.bearings ≤ r) × (r < rows s) }
-    ensures { (result ≡ second_end ends.now r) × (result < s.cameras) }
-{
-    ends[2 * r + 1]
-}
 
 // The places of the point lists that point p has: the Rust's `point_bearing_range`.
 pub fn span_of(s: Shape, offsets: &[usize], p: usize) -> Span
@@ -41,7 +14,7 @@ pub fn span_of(s: Shape, offsets: &[usize], p: usize) -> Span
 {
     let first = offsets[p];
     Span {
-        first: first,
+        first,
         size: offsets[p + 1] - first,
     }
 }
@@ -54,8 +27,6 @@ pub fn listed_at(s: Shape, listed: &[usize], k: usize) -> usize
 {
     listed[k]
 }
-
-// ---- what the tests of a call have shown, as types: a value stands for slices that passed them
 
 // The ends of the rows: 1, 2, 4 and 5.
 #[derive(Drop)]
@@ -154,9 +125,25 @@ impl<'a> Links<'a> {
         }
     }
 
+    // The same as a value of its own: what it holds stays in registers over a loop that stores. (By hand: a type with a model and a lifetime may not be `Copy`.)
+    pub fn copied(&self) -> Links<'a>
+        ensures { result ≡ self.now }
+    {
+        let ends = &self.ends;
+        Links {
+            ends: Ends {
+                shape: ends.shape,
+                ends: ends.ends,
+            },
+            offsets: self.offsets,
+            listed: self.listed,
+        }
+    }
+
     pub fn shape(&self) -> Shape
         ensures value { result ≡ self.now.shape }
         ensures sound { ShapeSound result }
+        ensures links_sound { LinksSound self.now }
     {
         self.ends.shape()
     }
@@ -167,17 +154,20 @@ impl<'a> Links<'a> {
         &self.ends
     }
 
-    // The places of the lists that a point has: the Rust's `point_bearing_range`.
+    // The rows that the point lists name.
+    pub fn listed_rows(&self) -> &'a [usize]
+        ensures value { result.now ≡ self.now.listed }
+        ensures sound { ListedSound self.now.shape.bearings result.now }
+    {
+        self.listed
+    }
+
+    // The places of the lists that a point has.
     pub fn span(&self, point: usize) -> Span
         requires { point < self.now.shape.points }
         ensures { (result ≡ span_of self.now.offsets point) × (result.first + result.size ≤ self.now.shape.bearings) }
     {
-        let offsets = self.offsets;
-        let first = offsets[point];
-        Span {
-            first,
-            size: offsets[point + 1] - first,
-        }
+        span_of(self.ends.shape(), self.offsets, point)
     }
 
     // The bearing at a place of the lists.
@@ -185,7 +175,6 @@ impl<'a> Links<'a> {
         requires { place < self.now.shape.bearings }
         ensures { (result ≡ get_or self.now.listed place 0) × (result < self.now.shape.bearings) }
     {
-        let listed = self.listed;
-        listed[place]
+        listed_at(self.ends.shape(), self.listed, place)
     }
 }

@@ -1,4 +1,5 @@
-// 8: the route and its dense limit.
+// 8: the route and its dense limit, as the numbers that a call is lent. (An enum would have to be made before 8 is tested; a struct of the two
+// would be opened in each contract, since the definitions take the numbers.)
 ghost use Rattle.std.specs.Prelude.{◌≡◌, ◌≤◌};
 ghost use Rattle.network.specs.Refusals.{verdict, bad_route, dense_rows, route_tests};
 

@@ -1,4 +1,5 @@
 // The reduced camera system, matrix-free (the Rust's `ReducedOperator`). The effective weights and the point weights stand in the work buffer.
+// The work buffer stays beside the fields (see system, src/work.rt), so that they lie in it is asked where it is read.
 #![tactic(auto)]
 
 pub mod held;
@@ -18,15 +19,16 @@ ghost use Rattle.operator.specs.inner.Applied.{PlacesIn, Ordered, FieldsIn, appl
 use field::{Vec3, anchored, gain3, get3, put3, zero};
 use network::links::{Ends, Links};
 use network::{Shape, Span};
-use short::{four_rows, three_rows, two_rows};
+use short::few_rows;
 use system::reads::{point_weight, row_weight};
 
 // The anchor, and where two fields of the cameras stand in the work buffer: the one that is read, and the one that changes.
+// No ghost field tells that the two lie apart: that depends on the shape as well, so each contract would ask in its place that the shape is the links'.
 #[derive(Clone, Copy)]
-pub(crate) struct Fields {
-    anchor: usize,
-    from: usize,
-    into: usize,
+pub struct Fields {
+    pub anchor: usize,
+    pub from: usize,
+    pub into: usize,
 }
 
 // Camera i × 1e-6, and zero at the anchor.
@@ -35,11 +37,11 @@ fn ridge_at(work: &mut [f64], f: Fields, i: usize)
     ensures { work.new ≡ put vector work.old (f.into + 3 * i)
         (ridge_at f.anchor i (get vector work.old (f.from + 3 * i))) }
 {
-    let v = anchored(i, f.anchor, zero(), get3(work, f.from + 3 * i).mul(1e-6));
+    let v = anchored(i, f.anchor, zero(), get3(work, f.from + 3 * i) * 1e-6);
     put3(work, f.into + 3 * i, v);
 }
 
-// The cameras × 1e-6, and zero at the anchor.
+// The cameras × 1e-6, and zero at the anchor. (No pass that takes the turn as a closure: its contract would be longer than this loop.)
 fn ridge_pass(s: Shape, work: &mut [f64], f: Fields)
     requires { Ordered s f.from f.into (length work.old) }
     ensures { work.new ≡ store vector work.old f.into
@@ -50,24 +52,25 @@ fn ridge_pass(s: Shape, work: &mut [f64], f: Fields)
     }
 }
 
-// v added to camera c's vector of the field at `into`, unless c is the anchor.
-fn gain(work: &mut [f64], n: usize, anchor: usize, into: usize, c: usize, v: Vec3)
-    requires { (n ≤ 4096) × (c < n) × (into + 3 * n ≤ length work.old) }
-    ensures { work.new ≡ store vector work.old into (changed plus anchor c v (load vector work.old into n)) }
+// v added to camera c's vector of the field at `into`, unless c is the anchor. (With the operation as a closure, here and in `lose`, the contract would
+// be longer than both bodies.)
+fn gain(work: &mut [f64], n: usize, f: Fields, c: usize, v: Vec3)
+    requires { (n ≤ 4096) × (c < n) × (f.into + 3 * n ≤ length work.old) }
+    ensures { work.new ≡ store vector work.old f.into (changed plus f.anchor c v (load vector work.old f.into n)) }
 {
-    if c != anchor {
-        gain3(work, into + 3 * c, v);
+    if c != f.anchor {
+        gain3(work, f.into + 3 * c, v);
     }
 }
 
 // v subtracted from it.
-fn lose(work: &mut [f64], n: usize, anchor: usize, into: usize, c: usize, v: Vec3)
-    requires { (n ≤ 4096) × (c < n) × (into + 3 * n ≤ length work.old) }
-    ensures { work.new ≡ store vector work.old into (changed minus anchor c v (load vector work.old into n)) }
+fn lose(work: &mut [f64], n: usize, f: Fields, c: usize, v: Vec3)
+    requires { (n ≤ 4096) × (c < n) × (f.into + 3 * n ≤ length work.old) }
+    ensures { work.new ≡ store vector work.old f.into (changed minus f.anchor c v (load vector work.old f.into n)) }
 {
-    if c != anchor {
-        let u = get3(work, into + 3 * c).sub(v);
-        put3(work, into + 3 * c, u);
+    if c != f.anchor {
+        let u = get3(work, f.into + 3 * c) - v;
+        put3(work, f.into + 3 * c, u);
     }
 }
 
@@ -80,21 +83,23 @@ fn bearing_step(e: &Ends<'_>, work: &mut [f64], f: Fields, r: usize, u: Vec3)
     let s = e.shape();
     let c = e.camera(r);
     let x = get3(work, f.from + 3 * c);
-    let v = x.sub(u).mul(row_weight(s, work, r));
-    gain(work, s.cameras, f.anchor, f.into, c, v);
+    let v = (x - u) * row_weight(s, work, r);
+    gain(work, s.cameras, f, c, v);
 }
 
-// Camera × effective weight of bearing r.
+// Camera × effective weight of bearing r. (Recover's stands apart: that one asks nothing of where the positions stand.)
 fn weighted(e: &Ends<'_>, work: &[f64], from: usize, r: usize) -> Vec3
     requires { (r < e.now.shape.bearings) × (from + 3 * e.now.shape.cameras ≤ weights_at e.now.shape) × (matrix_at e.now.shape ≤ length work.now) }
     ensures { result ≡ scale (at (load vector work.now from e.now.shape.cameras) (first_end e.now.ends r))
         ((weights_in e.now.shape work.now).row r) }
 {
     let c = e.camera(r);
-    get3(work, from + 3 * c).mul(row_weight(e.shape(), work, r))
+    get3(work, from + 3 * c) * row_weight(e.shape(), work, r)
 }
 
-// The sum of the cameras that see a point, by effective weight.
+// The sum of the cameras that see a point, by effective weight. A list is read by its places, here, below and in `short`: `listed` tells that a row is in
+// bounds, which a slice of the list's rows would not. (Sums over a list stand here, in system and in recover, a loop of three lines each: with
+// the term as a closure each contract would be longer than the loop.)
 fn point_sum(links: &Links<'_>, work: &[f64], from: usize, k: Span) -> Vec3
     requires { PlacesIn links.now.shape from k.first k.size (length work.now) }
     ensures { result ≡ upto (mean_step links.now.ends links.now.listed k (weights_in links.now.shape work.now)
@@ -104,7 +109,7 @@ fn point_sum(links: &Links<'_>, work: &[f64], from: usize, k: Span) -> Vec3
     let mut sum = zero();
     for i in 0..k.size {
         let r = links.listed(k.first + i);
-        sum = sum.add(weighted(e, work, from, r));
+        sum = sum + weighted(e, work, from, r);
     }
     sum
 }
@@ -130,7 +135,7 @@ fn long_step(links: &Links<'_>, work: &mut [f64], f: Fields, k: Span, t: f64)
     ensures { work.new ≡ applied links.now.shape f.from f.into
         (span_pass links.now.ends links.now.listed f.anchor k t) work.old }
 {
-    let u = point_sum(links, work, f.from, k).div(t);
+    let u = point_sum(links, work, f.from, k) / t;
     point_gain(links, work, f, k, u);
 }
 
@@ -144,9 +149,9 @@ fn list_step(links: &Links<'_>, work: &mut [f64], f: Fields, k: Span, t: f64)
     let first = k.first;
     let size = k.size;
     match size {
-        2 => two_rows(links, work, f, first, t),
-        3 => three_rows(links, work, f, first, t),
-        4 => four_rows(links, work, f, first, t),
+        2 => few_rows::<2>(links, work, f, first, t),
+        3 => few_rows::<3>(links, work, f, first, t),
+        4 => few_rows::<4>(links, work, f, first, t),
         _ => long_step(links, work, f, k, t),
     }
 }
@@ -183,7 +188,7 @@ fn between(s: Shape, work: &[f64], from: usize, r: usize, i: usize, j: usize) ->
 {
     let x = get3(work, from + 3 * j);
     let y = get3(work, from + 3 * i);
-    x.sub(y).mul(row_weight(s, work, r))
+    (x - y) * row_weight(s, work, r)
 }
 
 // The source of direction d loses (target - source) × its effective weight, and then its target gains it.
@@ -198,8 +203,8 @@ fn direction_step(e: &Ends<'_>, work: &mut [f64], f: Fields, d: usize)
     let i = e.camera(r);
     let j = e.target(r);
     let v = between(s, work, f.from, r, i, j);
-    lose(work, s.cameras, f.anchor, f.into, i, v);
-    gain(work, s.cameras, f.anchor, f.into, j, v);
+    lose(work, s.cameras, f, i, v);
+    gain(work, s.cameras, f, j, v);
 }
 
 fn directions_pass(e: &Ends<'_>, work: &mut [f64], f: Fields)

@@ -2,10 +2,10 @@
 use Rattle.std.proofs.Common.{Result}
 use Rattle.network.specs.declared.Cause.TheVariants.{Dimension}
 use Rattle.std.proofs.Common.{Err, Ok}
-use Prim.Native.Nat.{ℕ, ◌-◌, ◌*◌, ◌≤◌}
+use Prim.Native.Nat.{ℕ, zero, suc, ◌-◌, ◌*◌, ◌≤◌}
 use mathlib.Core.Path.{◌≡◌, refl, sym, ap, subst, ◌∙◌}
 use mathlib.Core.List.{List, [], ◌++◌}
-use mathlib.Core.Bool.{Bool, true, false, ◌&&◌}
+use mathlib.Core.Bool.{Bool, true, false, ◌&&◌, true≢false}
 use native.Mathlib.Omega.{arith}
 use lib.Dec.{eqb, leb}
 use lib.ListN.{length, drop, replicate}
@@ -18,18 +18,17 @@ use Rattle.field.specs.Buffer.{load, store, flat, vector}
 use Rattle.field.proofs.Buffers.{length-load, store-whole, load-flat, vector-lawful}
 use Rattle.network.specs.declared.Refusal.{Refusal}
 use Rattle.network.specs.Refusals.{Verdict}
-use Rattle.network.specs.Network.{Network, links, links_of, network}
-use Rattle.network.specs.declared.Shape.{Shape}
+use Rattle.network.specs.Network.{Network, links_of}
 use Rattle.network.specs.inner.Sound.{LinksSound, NetworkLengths, NetworkSound}
 use Rattle.network.specs.Refusals.{verdict, count_tests, length_tests, network_fits, network_row_tests, network_tests, route_tests, bad_route, marks_after}
 use Rattle.network.proofs.Verdicts.{both-passed, passes-in, stage-passed}
 use Rattle.network.proofs.Sound.{fit-lengths, lengths-fit, network-fits, route-sound, tests-sound}
-use Rattle.system.specs.System.{anchor, sums_from, terms, weights_of}
+use Rattle.system.specs.System.{anchor, row_sums, rows_of, terms, weights_of}
 use Rattle.system.specs.Counts.{few}
 use Rattle.system.specs.Work.{matrix_at, term, term_place, work_length}
 use Rattle.system.specs.declared.CameraTerm.{CameraTerm}
 use Rattle.system.proofs.Counts.{few-counted}
-use Rattle.system.specs.inner.Formed.{Formed, RowsThere, Segments, few_in, positions_in, weights_in}
+use Rattle.system.specs.inner.Formed.{Formed, Segments, few_in, positions_in, weights_in}
 use Rattle.recover.specs.Recover.{points_by}
 use Rattle.recover.proofs.Points.{points-recovered}
 use Rattle.iterative.specs.Method.{Ending, accepted, refused, solution}
@@ -45,26 +44,23 @@ use Rattle.placement.specs.declared.routes.Finish.{Finish}
 use Rattle.placement.specs.Routes.{Submission, Placement, rejected, failing, placed, failing_at, submission, dense_or, by_iterative, fall_back, routed_by, routed, buffers_fit}
 use Rattle.placement.specs.Routes.{lent_fits, submission_tests, submission_verdict, early_verdict, checked, placement}
 use Rattle.placement.specs.Solved.{answer_of, cameras_after, points_after, work_after, Solved}
-use Rattle.placement.specs.inner.Routing.{Checked, OutputsFilled, Ran, RouteReady, Routed, dense_in, ended_with, iterative_in, outcome, reported}
-use Rattle.placement.proofs.Routing.{route-cases, surplus-more, work-room}
+use Rattle.placement.specs.inner.Routing.{Checked, OutputsFilled, Ran, RouteReady, Routed, dense_in, ended_with, iterative_in, outcome, reported, route_number}
+use Rattle.placement.proofs.Routing.{no-fourth, route-cases, surplus-more, work-room}
 
 -- ---- the checks
 
-module _ (s : Shape) (ends : List ℕ) (rays weights scales points : List Float) (offsets listed : List ℕ) where
-  abbrev net : Network
-  net = network s ends rays weights scales points offsets listed
-
-  module _ (marks route limit work cameras out : ℕ) (v : Verdict) (f : v ≡ verdict (length_tests (network_fits net && buffers_fit s marks route limit work cameras out))) (q : v ≡ Ok tt) where
-    pub lengths-measured : NetworkLengths net × (marks ≡ s.bearings)
+module _ (net : Network) where
+  module _ (marks route limit work cameras out : ℕ) (v : Verdict) (f : v ≡ verdict (length_tests (network_fits net && buffers_fit net.shape marks route limit work cameras out))) (q : v ≡ Ok tt) where
+    pub lengths-measured : NetworkLengths net × (marks ≡ net.shape.bearings)
     unfolding buffers_fit
     lengths-measured =
         let g = both_true (network_fits net) _ (lengths-fit _ (sym f ∙ q)) in
-        (network-fits net g.0, eqb-true _ _ (both_true (eqb marks s.bearings) _ g.1).0)
+        (network-fits net g.0, eqb-true _ _ (both_true (eqb marks net.shape.bearings) _ g.1).0)
 
-    pub submission-checked : (x y : Verdict) → x ≡ verdict (count_tests s) → x ≡ Ok tt → y ≡ verdict (network_row_tests net [] ++ route_tests route limit) →
+    pub submission-checked : (x y : Verdict) → x ≡ verdict (count_tests net.shape) → x ≡ Ok tt → y ≡ verdict (network_row_tests net [] ++ route_tests route limit) →
         y ≡ submission_verdict (submission net marks route limit work cameras out)
     unfolding submission_tests
-    submission-checked x y e p h = passes-in (count_tests s) _ e p (passes-in (length_tests _) _ f q h)
+    submission-checked x y e p h = passes-in (count_tests net.shape) _ e p (passes-in (length_tests _) _ f q h)
 
 -- 1 to 7 of the network are among a solve's tests
 pub network-passes : (i : Submission) → submission_verdict i ≡ Ok tt → verdict (network_tests i.net) ≡ Ok tt
@@ -103,6 +99,14 @@ submission-sound i v h p =
       points = eqb-true _ _ k.0;
     }
 
+pub legal-route : (route limit : ℕ) → bad_route route limit ≡ false → (1 ≤ route) × (route ≤ 3)
+unfolding bad_route
+legal-route zero limit e = absurd (true≢false e)
+legal-route (suc zero) limit e = (omega arith, omega arith)
+legal-route (suc (suc zero)) limit e = (omega arith, omega arith)
+legal-route (suc (suc (suc zero))) limit e = (omega arith, omega arith)
+legal-route (suc (suc (suc (suc k)))) limit e = absurd (true≢false (sym (no-fourth k limit) ∙ e))
+
 -- ---- the answer of a route
 
 told : (a k : ℕ) (o : Result Finish Refusal) (cs : List Vec3) → outcome (reported a k o) cs ≡ ended_with o cs
@@ -116,57 +120,48 @@ answer-told net (Ok f) cs = refl
 pub answered-failed : {o : Result Finish Refusal} {q : Refusal} (a k : ℕ) → o ≡ Err q → Err q ≡ reported a k o
 answered-failed a k e = rw e
 
-pub answered-placed : {o : Result Finish Refusal} {t : Finish} (a f k : ℕ) → o ≡ Ok t → f ≡ k →
-    Ok (record { anchor = a; route = t.route; rounds = t.rounds; few = f }) ≡ reported a k o
-answered-placed a f k e h = rw (e, h)
+pub answered-placed : {o : Result Finish Refusal} {t : Finish} (a n f k : ℕ) → o ≡ Ok t → n ≡ route_number t.route → f ≡ k →
+    Ok (record { anchor = a; route = n; rounds = t.rounds; few = f }) ≡ reported a k o
+answered-placed a n f k e g h = rw (e, g, h)
 
 -- ---- the system is formed and the route taken
 
-module _ (s : Shape) (ends : List ℕ) (rays weights scales points : List Float) (offsets listed : List ℕ) (route limit size : ℕ)
-    (C : Checked (network s ends rays weights scales points offsets listed) route limit size) where
-  pub checked-links : LinksSound (links s ends offsets listed)
-  checked-links = C.sound.links
-
-  pub checked-rows : RowsThere s rays weights scales
-  checked-rows =
-      let d = C.sound.lengths.content.domain in
-      record { rays = omega (arith, d.rays); weights = omega (arith, d.weights); scales = omega (arith, d.scales) }
-
-  pub checked-points : length points ≡ 3 * s.points
+module _ (net : Network) (route limit size : ℕ)
+    (C : Checked net route limit size) where
+  pub checked-points : length net.positions ≡ 3 * net.shape.points
   checked-points = C.sound.lengths.content.domain.positions
 
-  pub checked-room : matrix_at s ≤ size
-  checked-room = let w = work-room s route limit in omega (arith, w, C.room)
+  pub checked-room : matrix_at net.shape ≤ size
+  checked-room = let w = work-room net.shape route limit in omega (arith, w, C.room)
 
-module _ (s : Shape) (ends : List ℕ) (rays weights scales points : List Float) (offsets listed : List ℕ) (route limit a : ℕ) (l l1 : List Float)
-    (F : Formed s ends (sums_from rays weights scales offsets listed) l l1 a) where
-  pub formed-ready : Checked (network s ends rays weights scales points offsets listed) route limit (length l) → RouteReady s a route limit (length l1)
+module _ (net : Network) (route limit a : ℕ) (l l1 : List Float)
+    (F : Formed net.shape net.ends (row_sums (rows_of net)) l l1 a) where
+  pub formed-ready : Checked net route limit (length l) → RouteReady net.shape a route limit (length l1)
   formed-ready C = record { anchor = F.below; legal = C.legal; room = rw F.size C.room }
 
-  pub formed-room : Checked (network s ends rays weights scales points offsets listed) route limit (length l) → (x : Placement) (l2 : List Float) (e : Result Finish Refusal) →
-      Routed s (work_length s route limit) x l1 l2 e → matrix_at s ≤ length l2
-  formed-room C x l2 e R = rw (R.size ∙ F.size) (checked-room s ends rays weights scales points offsets listed route limit (length l) C)
+  pub formed-room : Checked net route limit (length l) → (x : Placement) (l2 : List Float) (e : Result Finish Refusal) →
+      Routed net.shape (work_length net.shape route limit) x l1 l2 e → matrix_at net.shape ≤ length l2
+  formed-room C x l2 e R = rw (R.size ∙ F.size) (checked-room net route limit (length l) C)
 
-  pub run-done : (l2 : List Float) (e : Result Finish Refusal) (r : Result Report Refusal) → Checked (network s ends rays weights scales points offsets listed) route limit (length l) →
-      Routed s (work_length s route limit) (routed_by (dimension s) route limit (iterative_in (links s ends offsets listed) a l1) (dense_in (links s ends offsets listed) a l1)) l1 l2 e →
-      r ≡ reported a (few_in (load term l2 0 s.cameras) s.cameras) e →
-      Ran (network s ends rays weights scales points offsets listed) route limit l l2 r
+  pub run-done : (l2 : List Float) (e : Result Finish Refusal) (r : Result Report Refusal) → Checked net route limit (length l) →
+      Routed net.shape (work_length net.shape route limit) (routed_by (dimension net.shape) route limit (iterative_in (links_of net) a l1) (dense_in (links_of net) a l1)) l1 l2 e →
+      r ≡ reported a (few_in (load term l2 0 net.shape.cameras) net.shape.cameras) e →
+      Ran net route limit l l2 r
   unfolding routed
   run-done l2 o r C R h =
-      let net = network s ends rays weights scales points offsets listed in
       let K : LinksSound (links_of net) = C.sound.links in
-      let S : Segments s (weights_of net) (terms net) l1 = F.segments in
+      let S : Segments net.shape (weights_of net) (terms net) l1 = F.segments in
       let e : a ≡ anchor net = F.anchor in
       let x : iterative_in (links_of net) a l1 ≡ solution (problem net) = ap solution (problem-held net l1 a K S e) in
       let y : dense_in (links_of net) a l1 ≡ dense_solution net = dense-held net l1 a K S e in
-      let S2 : Segments s (weights_of net) (terms net) l2 = R.segments (weights_of net) (terms net) S in
-      let f : few_in (load term l2 0 s.cameras) s.cameras ≡ few net = ap (λ (ts : List CameraTerm). few_in ts s.cameras) S2.terms ∙ few-counted net C.sound in
-      let z : ended_with o (positions_in s l2) ≡ routed net route limit = R.answer ∙ rw (x, y) in
+      let S2 : Segments net.shape (weights_of net) (terms net) l2 = R.segments (weights_of net) (terms net) S in
+      let f : few_in (load term l2 0 net.shape.cameras) net.shape.cameras ≡ few net = ap (λ (ts : List CameraTerm). few_in ts net.shape.cameras) S2.terms ∙ few-counted net C.sound in
+      let z : ended_with o (positions_in net.shape l2) ≡ routed net route limit = R.answer ∙ rw (x, y) in
       record {
-        ended = ap (λ (q : Result Report Refusal). outcome q (positions_in s l2)) h ∙ told a _ o (positions_in s l2) ∙ z;
-        answer = h ∙ rw (e, f) (answer-told net o (positions_in s l2)) ∙ ap (answer_of net) z;
+        ended = ap (λ (q : Result Report Refusal). outcome q (positions_in net.shape l2)) h ∙ told a _ o (positions_in net.shape l2) ∙ z;
+        answer = h ∙ rw (e, f) (answer-told net o (positions_in net.shape l2)) ∙ ap (answer_of net) z;
         segments = S2;
-        surplus = R.surplus ∙ surplus-more _ _ l l1 F.surplus (work-room s route limit);
+        surplus = R.surplus ∙ surplus-more _ _ l l1 F.surplus (work-room net.shape route limit);
         size = R.size ∙ F.size;
       }
 
@@ -176,19 +171,18 @@ pub cameras-filled : (n : ℕ) (l out out' : List Float) (p : ℕ) → p ≡ ter
     out' ≡ flat vector (load vector l (term_place n) n)
 cameras-filled n l out out' p ep h e = e ∙ store-whole vector vector-lawful out (load vector l p n) (rw (length-load vector l p n) h) ∙ rw ep
 
-module _ (s : Shape) (ends : List ℕ) (rays weights scales points : List Float) (offsets listed : List ℕ) (route limit : ℕ) (l l1 cameras placed0 : List Float) (r : Result Report Refusal)
-    (C : Checked (network s ends rays weights scales points offsets listed) route limit (length l))
-    (R : Ran (network s ends rays weights scales points offsets listed) route limit l l1 r) where
-  pub ran-room : matrix_at s ≤ length l1
-  ran-room = rw R.size (checked-room s ends rays weights scales points offsets listed route limit (length l) C)
+module _ (net : Network) (route limit : ℕ) (l l1 cameras placed0 : List Float) (r : Result Report Refusal)
+    (C : Checked net route limit (length l))
+    (R : Ran net route limit l l1 r) where
+  pub ran-room : matrix_at net.shape ≤ length l1
+  ran-room = rw R.size (checked-room net route limit (length l) C)
 
-  pub placed-accepted : (p : Report) (cameras' placed' : List Float) → r ≡ Ok p → cameras' ≡ flat vector (positions_in s l1) →
-      placed' ≡ flat vector (points_by (network s ends rays weights scales points offsets listed) (weights_in s l1) (positions_in s l1)) →
-      OutputsFilled (network s ends rays weights scales points offsets listed) route limit (Ok p) l l1 cameras cameras' placed0 placed'
+  pub placed-accepted : (p : Report) (cameras' placed' : List Float) → r ≡ Ok p → cameras' ≡ flat vector (positions_in net.shape l1) →
+      placed' ≡ flat vector (points_by net (weights_in net.shape l1) (positions_in net.shape l1)) →
+      OutputsFilled net route limit (Ok p) l l1 cameras cameras' placed0 placed'
   placed-accepted p cameras' placed' e c q =
-      let net = network s ends rays weights scales points offsets listed in
-      let x : placed p.route p.rounds (positions_in s l1) ≡ routed net route limit = ap (λ (y : Result Report Refusal). outcome y (positions_in s l1)) (sym e) ∙ R.ended in
-      let z = points-recovered s ends rays weights scales points offsets listed (terms net) l1 (positions_in s l1) placed' C.sound.links R.segments q in
+      let x : placed p.route p.rounds (positions_in net.shape l1) ≡ routed net route limit = ap (λ (y : Result Report Refusal). outcome y (positions_in net.shape l1)) (sym e) ∙ R.ended in
+      let z = points-recovered net.shape net.ends net.rays net.weights net.scales net.positions net.offsets net.listed (terms net) l1 (positions_in net.shape l1) placed' C.sound.links R.segments q in
       record {
         answer = sym e ∙ R.answer;
         cameras_out = c ∙ ap (λ (y : Placement). cameras_after y cameras) x;
@@ -197,10 +191,9 @@ module _ (s : Shape) (ends : List ℕ) (rays weights scales points : List Float)
         size = R.size;
       }
 
-  pub placed-refused : (q : Refusal) → r ≡ Err q → OutputsFilled (network s ends rays weights scales points offsets listed) route limit (Err q) l l1 cameras cameras placed0 placed0
+  pub placed-refused : (q : Refusal) → r ≡ Err q → OutputsFilled net route limit (Err q) l l1 cameras cameras placed0 placed0
   placed-refused q e =
-      let net = network s ends rays weights scales points offsets listed in
-      let x : failing q ≡ routed net route limit = ap (λ (y : Result Report Refusal). outcome y (positions_in s l1)) (sym e) ∙ R.ended in
+      let x : failing q ≡ routed net route limit = ap (λ (y : Result Report Refusal). outcome y (positions_in net.shape l1)) (sym e) ∙ R.ended in
       record {
         answer = sym e ∙ R.answer;
         cameras_out = ap (λ (y : Placement). cameras_after y cameras) x;

@@ -10,11 +10,11 @@ use lib.Dec.{leb}
 use lib.ListN.{length, drop}
 use lib.Seq.{drop-drop}
 use lib.Ieee.{Float}
-use borrow.Author.Tests.{eq-eqb, le-leb, le-ltb, lt-leb, lt-ltb, ne_eqb}
+use borrow.Author.Tests.{le-leb, le-ltb, lt-leb, lt-ltb, ne_eqb}
 use Rattle.field.specs.declared.Vec3.{Vec3}
 use Rattle.network.specs.declared.Refusal.{Refusal}
 use Rattle.network.specs.declared.Shape.{Shape}
-use Rattle.network.specs.Network.{links}
+use Rattle.network.specs.Network.{Links}
 use Rattle.network.specs.Refusals.{bad_route, dense_rows}
 use Rattle.system.specs.Work.{matrix_at, term, weights_at, work_end, work_length}
 use Rattle.system.specs.inner.Formed.{positions_in, weights_in}
@@ -32,8 +32,10 @@ use Rattle.dense.specs.Dense.{dimension}
 use Rattle.dense.specs.inner.Held.{DenseSolved}
 use Rattle.dense.proofs.Solving.{segments-kept}
 use Rattle.placement.specs.declared.routes.Finish.{Finish}
+use Rattle.placement.specs.declared.routes.Route.{Route}
+use Rattle.placement.specs.declared.routes.Route.TheVariants.{Iterative}
 use Rattle.placement.specs.Routes.{Placement, broken, failing, placed, failing_at, by_dense, dense_or, by_iterative, fall_back, routed_by}
-use Rattle.placement.specs.inner.Routing.{RouteReady, Routed, after_refusal, dense_in, ended_with, iterative_in}
+use Rattle.placement.specs.inner.Routing.{RouteReady, Routed, dense_in, ended_with, iterative_in, route_number}
 
 -- ---- the length of the work buffer
 
@@ -54,9 +56,6 @@ module _ (s : Shape) (a route limit size : ℕ) (R : RouteReady s a route limit 
   pub matrix-room : matrix_at s ≤ size
   matrix-room = let w = work-room s route limit in omega (arith, w, R.room)
 
-pub first-room : (s : Shape) (a limit size : ℕ) → RouteReady s a 1 limit size → dimension s ≤ limit → work_end s (dimension s) ≤ size
-first-room s a limit size R = dense-room s a 1 limit size R (λ e. omega arith)
-
 -- the numbers after a place are as they were, so those after a later place are
 pub surplus-more : (p q : ℕ) (l l' : List Float) → drop p l' ≡ drop p l → p ≤ q → drop q l' ≡ drop q l
 surplus-more p q l l' e h =
@@ -73,48 +72,45 @@ renamed s t u x y l l' r e f R = record { answer = R.answer ∙ f; segments = R.
 
 -- ---- dense
 
-module _ (s : Shape) (d route : ℕ) (y : Result (List Vec3) Breakdown) (l l' : List Float) (r : Result (Unit {0}) Breakdown) (S : DenseSolved s d y l l' r) where
-  dense-routed : (q : Result Finish Refusal) → ended_with q (positions_in s l') ≡ by_dense route y → Routed s (work_end s d) (by_dense route y) l l' q
+module _ (s : Shape) (d : ℕ) (route : Route) (y : Result (List Vec3) Breakdown) (l l' : List Float) (r : Result (Unit {0}) Breakdown) (S : DenseSolved s d y l l' r) where
+  dense-routed : (q : Result Finish Refusal) → ended_with q (positions_in s l') ≡ by_dense (route_number route) y → Routed s (work_end s d) (by_dense (route_number route) y) l l' q
   dense-routed q e = record { answer = e; segments = λ w ts. segments-kept s d w ts l l' S.kept; surplus = S.kept.surplus; size = S.kept.size }
 
   ending : (x : Result (Unit {0}) Breakdown) → r ≡ x → ended x (positions_in s l') ≡ y
   ending x e = ap (λ (z : Result (Unit {0}) Breakdown). ended z (positions_in s l')) (sym e) ∙ S.answer
 
-  pub dense-done : r ≡ Ok tt → Routed s (work_end s d) (by_dense route y) l l' (Ok (record { route = route; rounds = 0 }))
-  dense-done e = dense-routed _ (ap (by_dense route) (ending (Ok tt) e))
+  dense-done : r ≡ Ok tt → Routed s (work_end s d) (by_dense (route_number route) y) l l' (Ok (record { route = route; rounds = 0 }))
+  dense-done e = dense-routed _ (ap (by_dense (route_number route)) (ending (Ok tt) e))
 
-  pub dense-stopped : (b : Breakdown) {q : Refusal} → r ≡ Err b → q ≡ broken b → Routed s (work_end s d) (by_dense route y) l l' (Err q)
-  dense-stopped b e f = rw f (dense-routed _ (ap (by_dense route) (ending (Err b) e)))
+  dense-stopped : (b : Breakdown) {q : Refusal} → r ≡ Err b → q ≡ broken b → Routed s (work_end s d) (by_dense (route_number route) y) l l' (Err q)
+  dense-stopped b e f = rw f (dense-routed _ (ap (by_dense (route_number route)) (ending (Err b) e)))
 
 -- ---- within the limit or not
 
-module _ (s : Shape) (ends offsets listed : List ℕ) (a limit : ℕ) (l : List Float) where
+module _ (L : Links) (a : ℕ) (route : Route) (limit : ℕ) (l : List Float) where
+  abbrev s : Shape
+  s = L.shape
+
   abbrev y : Result (List Vec3) Breakdown
-  y = dense_in (links s ends offsets listed) a l
+  y = dense_in L a l
 
-  pub first-over : (d : ℕ) → d ≡ dimension s → limit < d →
-      Routed s (work_length s 1 limit) (dense_or (leb (dimension s) limit) 1 y (failing_at Dimension (dimension s))) l l (Err (record { cause = Dimension; place = d }))
-  first-over d e h = same s _ _ l _ (rw (e, lt-leb (dimension s) limit (rw e at h)))
+  module _ (q : Refusal) where
+    abbrev within : Placement
+    within = dense_or (leb (dimension s) limit) (route_number route) y (failing q)
 
-  pub first-dense : (d : ℕ) (l' : List Float) (r : Result Finish Refusal) → RouteReady s a 1 limit (length l) → d ≡ dimension s → d ≤ limit → Routed s (work_end s (dimension s)) (by_dense 1 y) l l' r →
-      Routed s (work_length s 1 limit) (dense_or (leb (dimension s) limit) 1 y (failing_at Dimension (dimension s))) l l' r
-  first-dense d l' r R e h D =
-      let k : dimension s ≤ limit = rw e at h in
-      renamed s _ _ _ _ l l' r (sym (dense-end s 1 limit R.legal (λ z. omega arith) k)) (rw (le-leb (dimension s) limit k)) D
+    pub dense-over : limit < dimension s → Routed s (work_length s (route_number route) limit) within l l (Err q)
+    dense-over h = same s _ _ l _ (rw (lt-leb (dimension s) limit h))
 
-  module _ (route : ℕ) (q : Refusal) where
-    abbrev after : Placement
-    after = after_refusal (dimension s) route limit y q
+    module _ (l' : List Float) (r : Result (Unit {0}) Breakdown) (R : RouteReady s a (route_number route) limit (length l)) (g : route_number route ≡ 2 → ⊥) (h : dimension s ≤ limit)
+        (S : DenseSolved s (dimension s) y l l' r) where
+      renamed-dense : (o : Result Finish Refusal) → Routed s (work_end s (dimension s)) (by_dense (route_number route) y) l l' o → Routed s (work_length s (route_number route) limit) within l l' o
+      renamed-dense o D = renamed s _ _ _ _ l l' o (sym (dense-end s (route_number route) limit R.legal g h)) (rw (le-leb (dimension s) limit h)) D
 
-    pub back-second : route ≡ 2 → Routed s (work_length s route limit) after l l (Err q)
-    back-second h = same s _ _ l _ (rw (eq-eqb route 2 h))
+      pub dense-within : r ≡ Ok tt → Routed s (work_length s (route_number route) limit) within l l' (Ok (record { route = route; rounds = 0 }))
+      dense-within e = renamed-dense _ (dense-done s (dimension s) route y l l' r S e)
 
-    pub back-over : (route ≡ 2 → ⊥) → limit < dimension s → Routed s (work_length s route limit) after l l (Err q)
-    back-over g h = same s _ _ l _ (rw (ne_eqb route 2 g, lt-leb (dimension s) limit h))
-
-    pub back-dense : (l' : List Float) (r : Result Finish Refusal) → RouteReady s a route limit (length l) → (route ≡ 2 → ⊥) → dimension s ≤ limit → Routed s (work_end s (dimension s)) (by_dense 3 y) l l' r →
-        Routed s (work_length s route limit) after l l' r
-    back-dense l' r R g h D = renamed s _ _ _ _ l l' r (sym (dense-end s route limit R.legal g h)) (rw (ne_eqb route 2 g, le-leb (dimension s) limit h)) D
+      pub dense-broken : (b : Breakdown) {p : Refusal} → r ≡ Err b → p ≡ broken b → Routed s (work_length s (route_number route) limit) within l l' (Err p)
+      dense-broken b e f = renamed-dense _ (dense-stopped s (dimension s) route y l l' r S b e f)
 
 -- ---- iterative
 
@@ -128,41 +124,43 @@ ending-placed : (P : Problem) (x : Ending) (k : ℕ) (f : Refusal → Placement)
 ending-placed P (accepted t) k f cs q e h = let u : k ≡ t.round.count = cc in ap₂ (placed 2) u (h t q)
 ending-placed P (refused r) k f cs q e h = let z : ◌≡◌ {A = ℕ} 0 1 = cc in absurd (omega arith)
 
-module _ (s : Shape) (ends offsets listed : List ℕ) (a route limit : ℕ) (l l1 : List Float) (o : Result ℕ Refusal)
-    (S : IterativeSolved s (problem_by (links s ends offsets listed) (weights_in s l) (load term l 0 s.cameras) a) l l1 o) where
-  abbrev result : Placement
-  result = by_iterative (iterative_in (links s ends offsets listed) a l) (after_refusal (dimension s) route limit (dense_in (links s ends offsets listed) a l))
+module _ (L : Links) (a route limit : ℕ) (l l1 : List Float) (o : Result ℕ Refusal)
+    (S : IterativeSolved L.shape (problem_by L (weights_in L.shape l) (load term l 0 L.shape.cameras) a) l l1 o) where
+  outside-surplus : drop (work_length L.shape route limit) l1 ≡ drop (work_length L.shape route limit) l
+  outside-surplus = let w = work-room L.shape route limit in surplus-more (weights_at L.shape) (work_length L.shape route limit) l l1 S.outside.rest (omega (arith, w))
 
-  outside-surplus : drop (work_length s route limit) l1 ≡ drop (work_length s route limit) l
-  outside-surplus = let w = work-room s route limit in surplus-more (weights_at s) (work_length s route limit) l l1 S.outside.rest (omega (arith, w))
-
-  pub ready-after : RouteReady s a route limit (length l) → RouteReady s a route limit (length l1)
+  pub ready-after : RouteReady L.shape a route limit (length l) → RouteReady L.shape a route limit (length l1)
   ready-after R = record { anchor = R.anchor; legal = R.legal; room = rw S.outside.size R.room }
 
-  pub iterative-placed : (k : ℕ) → o ≡ Ok k → Routed s (work_length s route limit) result l l1 (Ok (record { route = 2; rounds = k }))
-  iterative-placed k e = record {
-    answer = ending-placed _ (iterative_in (links s ends offsets listed) a l) k _ (positions_in s l1) refl (sym S.answer ∙ e) S.positions;
-    segments = λ w ts. segments-outside s w ts l l1 S.outside;
-    surplus = outside-surplus;
-    size = S.outside.size;
-  }
+  iterative-routed : (x : Placement) (r : Result Finish Refusal) → ended_with r (positions_in L.shape l1) ≡ x → Routed L.shape (work_length L.shape route limit) x l l1 r
+  iterative-routed x r e = record { answer = e; segments = λ w ts. segments-outside L.shape w ts l l1 S.outside; surplus = outside-surplus; size = S.outside.size }
 
-  pub iterative-failed : (q : Refusal) (l2 : List Float) (r : Result Finish Refusal) → o ≡ Err q →
-      Routed s (work_length s route limit) (after_refusal (dimension s) route limit (dense_in (links s ends offsets listed) a l1) q) l1 l2 r →
-      Routed s (work_length s route limit) result l l2 r
-  iterative-failed q l2 r e R =
-      let x : iterative_in (links s ends offsets listed) a l ≡ refused q = ending-refused _ q (sym S.answer ∙ e) in
-      let w = weights-kept s l l1 S.outside.rest in
-      record {
-        answer = R.answer ∙ rw (x, w, S.outside.terms);
-        segments = λ v ts T. R.segments v ts (segments-outside s v ts l l1 S.outside T);
-        surplus = R.surplus ∙ outside-surplus;
-        size = R.size ∙ S.outside.size;
-      }
+  pub iterative-placed : (f : Refusal → Placement) (k : ℕ) (t : Finish) → o ≡ Ok k → t ≡ record { route = Iterative; rounds = k } →
+      Routed L.shape (work_length L.shape route limit) (by_iterative (iterative_in L a l) f) l l1 (Ok t)
+  iterative-placed f k t e g = rw g (iterative-routed _ _ (ending-placed _ (iterative_in L a l) k f (positions_in L.shape l1) refl (sym S.answer ∙ e) S.positions))
+
+  module _ (q : Refusal) (e : o ≡ Err q) where
+    refused-by : iterative_in L a l ≡ refused q
+    refused-by = ending-refused _ q (sym S.answer ∙ e)
+
+    pub iterative-failed : Routed L.shape (work_length L.shape route limit) (by_iterative (iterative_in L a l) failing) l l1 (Err q)
+    iterative-failed = iterative-routed _ _ (rw refused-by)
+
+    pub dense-after : (l2 : List Float) (r : Result Finish Refusal) →
+        Routed L.shape (work_length L.shape route limit) (dense_or (leb (dimension L.shape) limit) 3 (dense_in L a l1) (failing q)) l1 l2 r →
+        Routed L.shape (work_length L.shape route limit) (by_iterative (iterative_in L a l) (fall_back (dimension L.shape) limit (dense_in L a l))) l l2 r
+    dense-after l2 r R =
+        let w = weights-kept L.shape l l1 S.outside.rest in
+        record {
+          answer = R.answer ∙ rw (refused-by, w, S.outside.terms);
+          segments = λ v ts T. R.segments v ts (segments-outside L.shape v ts l l1 S.outside T);
+          surplus = R.surplus ∙ outside-surplus;
+          size = R.size ∙ S.outside.size;
+        }
 
 -- ---- the routes
 
-no-fourth : (k limit : ℕ) → bad_route (suc (suc (suc (suc k)))) limit ≡ true
+pub no-fourth : (k limit : ℕ) → bad_route (suc (suc (suc (suc k)))) limit ≡ true
 unfolding bad_route
 no-fourth k limit = rw (le-ltb (suc (suc (suc (suc k)))) 1 (omega arith), lt-ltb 3 (suc (suc (suc (suc k)))) (omega arith))
 
@@ -177,26 +175,17 @@ module _ (d limit : ℕ) (x : Ending) (y : Result (List Vec3) Breakdown) where
   route-cases P (suc (suc (suc zero))) e p q r = r
   route-cases P (suc (suc (suc (suc k)))) e p q r = absurd (true≢false (sym (no-fourth k limit) ∙ e))
 
-iterative-route : (d limit : ℕ) (x : Ending) (y : Result (List Vec3) Breakdown) (route : ℕ) → bad_route route limit ≡ false → (route ≡ 1 → ⊥) →
-    by_iterative x (after_refusal d route limit y) ≡ routed_by d route limit x y
-unfolding routed_by bad_route
-iterative-route d limit x y zero e h = absurd (true≢false e)
-iterative-route d limit x y (suc zero) e h = absurd (h refl)
-iterative-route d limit (accepted s) y (suc (suc zero)) e h = refl
-iterative-route d limit (refused r) y (suc (suc zero)) e h = refl
-iterative-route d limit (accepted s) y (suc (suc (suc zero))) e h = refl
-iterative-route d limit (refused r) y (suc (suc (suc zero))) e h = refl
-iterative-route d limit x y (suc (suc (suc (suc k)))) e h = absurd (true≢false (sym (no-fourth k limit) ∙ e))
-
-module _ (s : Shape) (a route limit : ℕ) (x : Ending) (y : Result (List Vec3) Breakdown) (l l' : List Float) (r : Result Finish Refusal) where
-  pub route-first : route ≡ 1 → Routed s (work_length s 1 limit) (dense_or (leb (dimension s) limit) 1 y (failing_at Dimension (dimension s))) l l' r →
-      Routed s (work_length s route limit) (routed_by (dimension s) route limit x y) l l' r
+module _ (s : Shape) (limit : ℕ) (x : Ending) (y : Result (List Vec3) Breakdown) (l l' : List Float) (r : Result Finish Refusal) where
+  pub route-dense : Routed s (work_length s 1 limit) (dense_or (leb (dimension s) limit) 1 y (failing_at Dimension (dimension s))) l l' r →
+      Routed s (work_length s 1 limit) (routed_by (dimension s) 1 limit x y) l l' r
   unfolding routed_by
-  route-first e R = renamed s _ _ _ _ l l' r (rw e) (rw (eq-eqb route 1 e)) R
+  route-dense R = R
 
-  pub route-other : RouteReady s a route limit (length l) → (route ≡ 1 → ⊥) → Routed s (work_length s route limit) (by_iterative x (after_refusal (dimension s) route limit y)) l l' r →
-      Routed s (work_length s route limit) (routed_by (dimension s) route limit x y) l l' r
-  route-other Q h R = renamed s _ _ _ _ l l' r refl (iterative-route (dimension s) limit x y route Q.legal h) R
+  pub route-iterative : Routed s (work_length s 2 limit) (by_iterative x failing) l l' r → Routed s (work_length s 2 limit) (routed_by (dimension s) 2 limit x y) l l' r
+  unfolding routed_by
+  route-iterative R = R
 
-pub ready-first : (s : Shape) (a route limit size : ℕ) → route ≡ 1 → RouteReady s a route limit size → RouteReady s a 1 limit size
-ready-first s a route limit size e R = record { anchor = R.anchor; legal = rw e at R.legal; room = rw e at R.room }
+  pub route-both : Routed s (work_length s 3 limit) (by_iterative x (fall_back (dimension s) limit y)) l l' r →
+      Routed s (work_length s 3 limit) (routed_by (dimension s) 3 limit x y) l l' r
+  unfolding routed_by
+  route-both R = R

@@ -1,26 +1,69 @@
 // The routes, over the system that is formed in the work buffer.
+// The work buffer stays beside the links (see system, src/work.rt), so that it has room for the route is asked where it is read. Route and limit go
+// beside it as 8 and the length of the work buffer (network, system) take them.
 ghost use Rattle.std.specs.Prelude.{◌≡◌, ◌≤◌, ◌<◌, leb, length};
-ghost use Rattle.network.specs.Network.{links};
-ghost use Rattle.network.specs.inner.Sound.{LinksSound};
-ghost use Rattle.system.specs.Work.{work_end, work_length};
+ghost use Rattle.system.specs.Work.{work_length};
 ghost use Rattle.dense.specs.Dense.{dimension};
-ghost use Rattle.network.specs.declared.Cause.TheVariants.{Dimension};
-ghost use Rattle.placement.specs.Routes.{broken, by_dense, by_iterative, dense_or, failing_at, routed_by};
-ghost use Rattle.placement.specs.inner.Routing.{RouteReady, Routed, after_refusal, dense_in, iterative_in};
+ghost use Rattle.placement.specs.Routes.{broken, by_iterative, dense_or, failing, fall_back, routed_by};
+ghost use Rattle.placement.specs.declared.routes.Route.TheVariants.{Iterative};
+ghost use Rattle.placement.specs.inner.Routing.{RouteReady, Routed, dense_in, iterative_in, route_number};
 
 use cholesky::Breakdown;
 use dense::solve_dense;
 use iterative::solve_iterative;
-use network::{Cause, Refusal, Shape};
+use network::links::Links;
+use network::{Cause, Refusal};
 
-// How a route that is not refused ends: the answering route and its rounds.
+// The routes, by their numbers.
+#[derive(Clone, Copy)]
+pub(crate) enum Route {
+    Dense = 1,
+    Iterative = 2,
+    // iterative, then dense if that refused and n - 1 is within the dense limit
+    IterativeThenDense = 3,
+}
+
+impl Route {
+    // The route of a number that 8 does not refuse. (No `TryFrom`: 8 has been tested, so its error would be a case that no call meets.)
+    pub(crate) fn of(number: usize) -> Route
+        requires { (1 ≤ number) × (number ≤ 3) }
+        ensures { route_number result ≡ number }
+    {
+        match number {
+            1 => Route::Dense,
+            2 => Route::Iterative,
+            _ => Route::IterativeThenDense,
+        }
+    }
+
+    // (No `From`: at its one call `usize::from` would say less.)
+    pub(crate) fn number(self) -> usize
+        ensures { result ≡ route_number self }
+    {
+        self as usize
+    }
+}
+
+// How a route that is not refused ends: the answering route and its rounds, 0 where dense answered. (No rounds in a case of an enum: a report has both
+// numbers on every route.)
 #[derive(Clone, Copy)]
 pub(crate) struct Finish {
-    pub(crate) route: usize,
+    pub(crate) route: Route,
     pub(crate) rounds: usize,
 }
 
-// The refusal of a dense solve that breaks down.
+impl Finish {
+    fn iterative(rounds: usize) -> Finish
+        ensures { result ≡ record { route = Iterative; rounds = rounds } }
+    {
+        Finish {
+            route: Route::Iterative,
+            rounds: rounds,
+        }
+    }
+}
+
+// The refusal of a dense solve that breaks down. (No `From`: both types are of other crates.)
 fn refusal(breakdown: Breakdown) -> Refusal
     ensures { result ≡ broken breakdown }
 {
@@ -40,134 +83,96 @@ fn refusal(breakdown: Breakdown) -> Refusal
     }
 }
 
-// Dense, answering as the route that is named.
+// Dense within the limit (the Rust's `dense_fits`), answering as the route that is named; else the refusal.
 fn go_dense(
-    s: Shape,
-    ends: &[usize],
-    offsets: &[usize],
-    listed: &[usize],
+    links: &Links<'_>,
     anchor: usize,
-    route: usize,
+    route: Route,
+    limit: usize,
+    otherwise: Refusal,
     work: &mut [f64],
 ) -> Result<Finish, Refusal>
-    requires links_sound { LinksSound (links s ends.now offsets.now listed.now) }
-    requires anchor_lt_cameras { (anchor < s.cameras) × (work_end s (dimension s) ≤ length work.old) }
-    ensures { Routed s (work_end s (dimension s))
-        (by_dense route (dense_in (links s ends.now offsets.now listed.now) anchor work.old))
+    requires route_ready { RouteReady links.now.shape anchor (route_number route) limit (length work.old) }
+    requires not_iterative { route_number route ≡ 2 → ⊥ }
+    ensures { let s = links.now.shape in
+        Routed s (work_length s (route_number route) limit)
+        (dense_or (leb (dimension s) limit) (route_number route) (dense_in links.now anchor work.old) (failing otherwise))
         work.old work.new result }
 {
-    match solve_dense(s, ends, offsets, listed, anchor, work) {
-        Ok(()) => Ok(Finish {
-            route: route,
-            rounds: 0,
-        }),
+    if links.shape().cameras - 1 > limit {
+        return Err(otherwise);
+    }
+    match solve_dense(links, anchor, work) {
+        Ok(()) => Ok(Finish { route, rounds: 0 }),
         Err(breakdown) => Err(refusal(breakdown)),
     }
 }
 
-// Route 1: dense within the limit (the Rust's `dense_fits`), else 14.
-fn go_first(
-    s: Shape,
-    ends: &[usize],
-    offsets: &[usize],
-    listed: &[usize],
-    limit: usize,
-    anchor: usize,
-    work: &mut [f64],
-) -> Result<Finish, Refusal>
-    requires links_sound { LinksSound (links s ends.now offsets.now listed.now) }
-    requires route_ready { RouteReady s anchor 1 limit (length work.old) }
-    ensures { Routed s (work_length s 1 limit) (dense_or (leb (dimension s) limit) 1
-        (dense_in (links s ends.now offsets.now listed.now) anchor work.old)
-        (failing_at Dimension (dimension s))) work.old work.new result }
-{
-    let d = s.cameras - 1;
-    if d > limit {
-        return Err(Refusal {
-            cause: Cause::Dimension,
-            place: d,
-        });
-    }
-    go_dense(s, ends, offsets, listed, anchor, 1, work)
-}
-
-// After a refusal of the iterative part: on route 3 dense within the limit.
-fn fall_back(
-    s: Shape,
-    ends: &[usize],
-    offsets: &[usize],
-    listed: &[usize],
-    route: usize,
-    limit: usize,
-    anchor: usize,
-    refusal: Refusal,
-    work: &mut [f64],
-) -> Result<Finish, Refusal>
-    requires links_sound { LinksSound (links s ends.now offsets.now listed.now) }
-    requires route_ready { RouteReady s anchor route limit (length work.old) }
-    ensures { Routed s (work_length s route limit) (after_refusal (dimension s) route limit
-        (dense_in (links s ends.now offsets.now listed.now) anchor work.old)
-        refusal) work.old work.new result }
-{
-    if route == 2 {
-        return Err(refusal);
-    }
-    if s.cameras - 1 > limit {
-        return Err(refusal);
-    }
-    go_dense(s, ends, offsets, listed, anchor, 3, work)
-}
-
-// Routes 2 and 3.
+// Route 2.
 fn go_iterative(
-    s: Shape,
-    ends: &[usize],
-    offsets: &[usize],
-    listed: &[usize],
-    route: usize,
-    limit: usize,
+    links: &Links<'_>,
     anchor: usize,
+    limit: usize,
     work: &mut [f64],
 ) -> Result<Finish, Refusal>
-    requires links_sound { LinksSound (links s ends.now offsets.now listed.now) }
-    requires route_ready { RouteReady s anchor route limit (length work.old) }
-    ensures { Routed s (work_length s route limit) (by_iterative
-        (iterative_in (links s ends.now offsets.now listed.now) anchor work.old)
-        (after_refusal (dimension s) route limit
-        (dense_in (links s ends.now offsets.now listed.now) anchor work.old)))
+    requires { RouteReady links.now.shape anchor 2 limit (length work.old) }
+    ensures { let s = links.now.shape in
+        Routed s (work_length s 2 limit) (by_iterative (iterative_in links.now anchor work.old) failing)
         work.old work.new result }
 {
-    match solve_iterative(s, ends, offsets, listed, anchor, work) {
-        Ok(rounds) => Ok(Finish {
-            route: 2,
-            rounds: rounds,
-        }),
-        Err(refusal) => fall_back(
-            s, ends, offsets, listed, route, limit, anchor, refusal, work,
+    let rounds = solve_iterative(links, anchor, work)?;
+    Ok(Finish::iterative(rounds))
+}
+
+// Route 3: after a refusal of the iterative part dense, within the limit.
+fn go_both(
+    links: &Links<'_>,
+    anchor: usize,
+    limit: usize,
+    work: &mut [f64],
+) -> Result<Finish, Refusal>
+    requires { RouteReady links.now.shape anchor 3 limit (length work.old) }
+    ensures { let s = links.now.shape in
+        Routed s (work_length s 3 limit) (by_iterative (iterative_in links.now anchor work.old)
+        (fall_back (dimension s) limit (dense_in links.now anchor work.old)))
+        work.old work.new result }
+{
+    match solve_iterative(links, anchor, work) {
+        Ok(rounds) => Ok(Finish::iterative(rounds)),
+        Err(refusal) => go_dense(
+            links,
+            anchor,
+            Route::IterativeThenDense,
+            limit,
+            refusal,
+            work,
         ),
     }
 }
 
 // The route, over the system that is formed in the work buffer. In the Rust `solve_reduced` chooses; here the caller does.
 pub(crate) fn go(
-    s: Shape,
-    ends: &[usize],
-    offsets: &[usize],
-    listed: &[usize],
-    route: usize,
-    limit: usize,
+    links: &Links<'_>,
     anchor: usize,
+    route: Route,
+    limit: usize,
     work: &mut [f64],
 ) -> Result<Finish, Refusal>
-    requires links_sound { LinksSound (links s ends.now offsets.now listed.now) }
-    requires route_ready { RouteReady s anchor route limit (length work.old) }
-    ensures { Routed s (work_length s route limit) (routed_by (dimension s) route limit
-        (iterative_in (links s ends.now offsets.now listed.now) anchor work.old)
-        (dense_in (links s ends.now offsets.now listed.now) anchor work.old))
+    requires { RouteReady links.now.shape anchor (route_number route) limit (length work.old) }
+    ensures { let s = links.now.shape in
+        Routed s (work_length s (route_number route) limit) (routed_by (dimension s) (route_number route) limit
+        (iterative_in links.now anchor work.old) (dense_in links.now anchor work.old))
         work.old work.new result }
 {
-    if route == 1 {
-        return go_first(s, ends, offsets, listed, limit, anchor, work);
+    match route {
+        Route::Dense => {
+            let over = Refusal {
+                cause: Cause::Dimension,
+                place: links.shape().cameras - 1,
+            };
+            go_dense(links, anchor, route, limit, over, work)
+        }
+        Route::Iterative => go_iterative(links, anchor, limit, work),
+        Route::IterativeThenDense => go_both(links, anchor, limit, work),
     }
-    go_iterative(s, ends, offsets, listed, route, limit, anchor, work)
 }

@@ -2,6 +2,7 @@
 use Rattle.std.proofs.Common.{Option, Some, None}
 use Rattle.std.specs.Option.{option_and_then, option_map_or}
 use Rattle.std.specs.List.{slice_get}
+use denote.Bor.{Bor}
 use mathlib.Core.Path.{◌≡◌, refl, sym, ap, ◌∙◌}
 use mathlib.Core.List.{List, [], ◌∷◌}
 use Prim.Native.Nat.{ℕ, zero, suc, ◌+◌, ◌-◌, ◌*◌, ◌^◌, ◌≤◌, ◌<◌}
@@ -12,19 +13,46 @@ use lib.ListN.{length, get_or, take, drop, length-drop, drop_of_length-le}
 use lib.Seq.{take_all, drop-drop, drop-cons}
 use borrow.Author.Tests.{lt-ltb, le-ltb}
 use Rattle.std.proofs.lemmas.Bool.Decides.{nat_tests}
-use Rattle.records.specs.Records.{stepped, worded, digit_of, digit_at, below_base, digits, valued, number_at}
+use Rattle.records.specs.declared.text.Text.{Text}
+use Rattle.records.specs.Records.{stepped, worded, digit_of, digit_at, below_base, digits, valued, Number, number_at, moved, Took}
+
+-- a text is told by its bytes and its place
+module _ {u : Text} {j : Bor (List ℕ)} {p : Option ℕ} where
+  pub text-is : u.input ≡ j → u.at ≡ p → u ≡ record { input = j; at = p }
+  text-is i a = rw (← i, ← a) refl
+
+  pub text-input : u ≡ record { input = j; at = p } → u.input ≡ j
+  text-input e = ap (λ (x : Text). x.input) e
+
+  pub text-at : u ≡ record { input = j; at = p } → u.at ≡ p
+  text-at e = ap (λ (x : Text). x.at) e
 
 -- ---- words
 
--- a word is read up to place i, and its rest goes on from q; r is the step over its next byte
-module _ {x : Option ℕ} (l : List ℕ) (q : Option ℕ) (w : List ℕ) (i : ℕ) (e : x ≡ worded l q (drop i w)) where
-  pub word-more : {r : Option ℕ} → r ≡ stepped l q (get_or w i 0) → i < length w → x ≡ worded l r (drop (i + 1) w)
-  unfolding worded
-  word-more f h = e ∙ rw (add-one, drop-cons w i 0 h, f)
+-- a word is read up to place i, and its rest goes on from the text that is left
+pub record Wording (s t : Text) (w : List ℕ) (i : ℕ) : Type 0 where
+  pub input : t.input ≡ s.input
+  pub rest : worded s.input.now s.at w ≡ worded s.input.now t.at (drop i w)
 
-  pub word-done : length w ≤ i → q ≡ x
-  unfolding worded
-  word-done h = sym (rw (drop_of_length-le w {i = i} h) at e)
+pub wording-none : (s : Text) (w : List ℕ) → Wording s s w 0
+wording-none s w = record { input = refl; rest = refl }
+
+worded-drop : (l : List ℕ) (q : Option ℕ) (w : List ℕ) (i : ℕ) → i < length w → worded l q (drop i w) ≡ worded l (stepped l q (get_or w i 0)) (drop (i + 1) w)
+unfolding worded
+worded-drop l q w i h = rw (add-one, drop-cons w i 0 h)
+
+worded-none : (l : List ℕ) (q : Option ℕ) (w : List ℕ) (i : ℕ) → length w ≤ i → worded l q (drop i w) ≡ q
+unfolding worded
+worded-none l q w i h = rw (drop_of_length-le w {i = i} h)
+
+module _ (s t : Text) (w : List ℕ) (i : ℕ) (x : Wording s t w i) where
+  pub wording-more : (u : Text) → u ≡ moved t (stepped t.input.now t.at (get_or w i 0)) → i < length w → Wording s u w (i + 1)
+  wording-more u e h =
+      let a : u.at ≡ stepped s.input.now t.at (get_or w i 0) = rw x.input at (text-at e) in
+      record { input = text-input e ∙ x.input; rest = x.rest ∙ worded-drop s.input.now t.at w i h ∙ rw a }
+
+  pub wording-done : length w ≤ i → t ≡ moved s (worded s.input.now s.at w)
+  wording-done h = text-is x.input (sym (x.rest ∙ worded-none s.input.now t.at w i h))
 
 -- ---- digits
 
@@ -142,15 +170,29 @@ number-ends base most l text q v i e d =
     omega (arith, d.1)
 
 module _ (base least most : ℕ) (l : List ℕ) (p : Option ℕ) {o : Option ℕ} (f : o ≡ stepped l p 32) where
-  pub number-lost : o ≡ None → record { value = 0; next = None } ≡ number_at base least most l p
+  at-lost : o ≡ None → record { value = 0; next = None } ≡ number_at base least most l p
   unfolding number_at
-  number-lost g = rw (← f, g)
+  at-lost g = rw (← f, g)
 
   module _ (text : List ℕ) (q v i : ℕ) (g : o ≡ Some q) (e : text ≡ drop q l) (d : Digits base most text v i) where
-    pub number-short : i < least → record { value = v; next = None } ≡ number_at base least most l p
+    at-short : i < least → record { value = v; next = None } ≡ number_at base least most l p
     unfolding number_at
-    number-short h = rw (← f, g, ← e, ← d.0, ← d.1, lt-ltb i least h)
+    at-short h = rw (← f, g, ← e, ← d.0, ← d.1, lt-ltb i least h)
 
-    pub number-is : least ≤ i → record { value = v; next = Some (q + i) } ≡ number_at base least most l p
+    at-is : least ≤ i → record { value = v; next = Some (q + i) } ≡ number_at base least most l p
     unfolding number_at
-    number-is h = rw (← f, g, ← e, ← d.0, ← d.1, le-ltb i least h)
+    at-is h = rw (← f, g, ← e, ← d.0, ← d.1, le-ltb i least h)
+
+took : (t : Text) {k : Number} {v : ℕ} {q : Option ℕ} → record { value = v; next = q } ≡ k → Took t (record { input = t.input; at = q }) k v
+took t e = record { value = ap (λ (x : Number). x.value) e; next = text-is refl (ap (λ (x : Number). x.next) e) }
+
+module _ (base least most : ℕ) (t : Text) {o : Option ℕ} (f : o ≡ stepped t.input.now t.at 32) where
+  pub number-lost : o ≡ None → Took t (record { input = t.input; at = None }) (number_at base least most t.input.now t.at) 0
+  number-lost g = took t (at-lost base least most t.input.now t.at f g)
+
+  module _ (text : List ℕ) (q v i : ℕ) (g : o ≡ Some q) (e : text ≡ drop q t.input.now) (d : Digits base most text v i) where
+    pub number-short : i < least → Took t (record { input = t.input; at = None }) (number_at base least most t.input.now t.at) v
+    number-short h = took t (at-short base least most t.input.now t.at f text q v i g e d h)
+
+    pub number-is : least ≤ i → Took t (record { input = t.input; at = Some (q + i) }) (number_at base least most t.input.now t.at) v
+    number-is h = took t (at-is base least most t.input.now t.at f text q v i g e d h)

@@ -7,9 +7,30 @@ use Rattle.std.specs.List.{slice_get}
 use Rattle.std.specs.Float.{binary64}
 use Rattle.std.specs.Float.Ieee.{of_bits, to_bits}
 use Rattle.field.specs.Count.{field}
-use Rattle.field.specs.Buffer.{part, write}
-use Rattle.records.specs.declared.text.Number.{Number}
-use Rattle.records.specs.declared.lines.Found.{Found}
+use Rattle.records.specs.declared.text.Text.{Text}
+
+-- a number, and the place after it
+pub record Number : Type 0 where
+  pub value : ℕ
+  pub next : Option ℕ
+
+-- the place after a list, and whether its numbers are those that they were compared with
+pub record Found : Type 0 where
+  pub next : Option ℕ
+  pub same : Bool
+
+-- the text, with another place that is read next
+abbrev pub moved : (t : Text) (p : Option ℕ) → Text
+moved t p = record { input = t.input; at = p }
+
+-- what a call on a text promises that reads this number, or compares this list
+pub record Took (before after : Text) (k : Number) (x : ℕ) : Type 0 where
+  pub value : x ≡ k.value
+  pub next : after ≡ moved before k.next
+
+pub record Met (before after : Text) (f : Found) (same : Bool) : Type 0 where
+  pub value : same ≡ f.same
+  pub next : after ≡ moved before f.next
 
 -- the place after one byte, which must be the wanted one
 unfoldable pub stepped : (input : List ℕ) (at : Option ℕ) (wanted : ℕ) → Option ℕ
@@ -73,23 +94,20 @@ values read at n = field n (λ i. (read (past read at i)).value)
 abbrev pub line_end : (input : List ℕ) (read : Option ℕ → Number) (at : Option ℕ) (n : ℕ) → Option ℕ
 line_end input read at n = stepped input (past read at n) 10
 
--- What reading a line promises. It is a word and n numbers; those stand in the buffer from place p on, as far as it reaches, and r is the place after
--- the line.
-pub record LineRead {A : Type 0} (input : List ℕ) (read : Option ℕ → Number) (start : Option ℕ) (n : ℕ) (numbers before after : List A) (p : ℕ) (r : Option ℕ) : Type 0 where
-  pub stored : after ≡ write before p numbers
-  pub next : r ≡ line_end input read start n
+-- What reading a line promises. It is a word and as many numbers as the list has; the list holds those afterwards, and the text goes on after the line.
+pub record LineRead {A : Type 0} (t u : Text) (read : Option ℕ → Number) (start : Option ℕ) (numbers : ℕ → List A) (before after : List A) : Type 0 where
+  pub stored : after ≡ numbers (length before)
+  pub next : u ≡ moved t (line_end t.input.now read start (length before))
 
--- a line of decimal numbers, for the places from `from` up to `to`
-abbrev pub WholesRead : (input : List ℕ) (at : Option ℕ) (word before after : List ℕ) (from to : ℕ) (r : Option ℕ) → Type 0
-WholesRead input at word before after from to r =
-    LineRead input (decimal_at input) (worded input at word) (to - from) (values (decimal_at input) (worded input at word) (to - from))
-    before after from r
+-- a line of decimal numbers
+abbrev pub WholesRead : (t u : Text) (word before after : List ℕ) → Type 0
+WholesRead t u word before after =
+    LineRead t u (decimal_at t.input.now) (worded t.input.now t.at word) (values (decimal_at t.input.now) (worded t.input.now t.at word)) before after
 
 -- a line of doubles
-abbrev pub RealsRead : (input : List ℕ) (at : Option ℕ) (word : List ℕ) (before after : List Float) (from to : ℕ) (r : Option ℕ) → Type 0
-RealsRead input at word before after from to r =
-    LineRead input (hex_at input) (worded input at word) (to - from) (map (of_bits binary64) (values (hex_at input) (worded input at word) (to - from)))
-    before after from r
+abbrev pub RealsRead : (t u : Text) (word : List ℕ) (before after : List Float) → Type 0
+RealsRead t u word before after =
+    LineRead t u (hex_at t.input.now) (worded t.input.now t.at word) (λ n. map (of_bits binary64) (values (hex_at t.input.now) (worded t.input.now t.at word) n)) before after
 
 -- whether two lists hold the same numbers
 unfoldable pub alike : (xs ys : List ℕ) → Bool
@@ -110,7 +128,3 @@ wholes_compared input at numbers = compared input (decimal_at input) at numbers
 -- a line of doubles, compared bit for bit with some
 abbrev pub reals_compared : (input : List ℕ) (at : Option ℕ) (word : List ℕ) (numbers : List Float) → Found
 reals_compared input at word numbers = compared input (hex_at input) (worded input at word) (map (to_bits binary64) numbers)
-
--- the elements from place `from` up to `to`, or none where any is lacking
-unfoldable pub between {ℓ} : {A : Type ℓ} (l : List A) (from to : ℕ) → List A
-between l from to = cond (leb to (length l)) (part l from (to - from)) []

@@ -1,12 +1,13 @@
-// Words and numbers of a text. Where the text is not what it must be, the next place is lost: None, and stays so.
-ghost use Rattle.std.specs.Prelude.{◌≡◌, ◌≤◌, ◌^◌, length, drop};
-ghost use Rattle.records.specs.Records.{stepped, worded, digit_of, digit_at, digits, valued, number_at, decimal_at, hex_at};
+// Words and numbers of a text.
+ghost use Rattle.std.specs.Prelude.{◌≡◌, ◌≤◌, ◌^◌, length, drop, Some};
+ghost use Rattle.records.specs.Records.{stepped, worded, digit_of, digit_at, digits, valued, number_at, decimal_at, hex_at, moved, Took};
 
-// A number, and the place after it.
-#[derive(Clone, Copy)]
-pub struct Number {
-    pub value: usize,
-    pub next: Option<usize>,
+// A text that is read from its front, and the place that is read next. Where it is not what it must be, the place is lost: None, and stays so.
+// (No `?` at the callers: what a broken number leaves, and what is read after it, is promised, since a list stores it.)
+#[derive(Drop)]
+pub struct Text<'a> {
+    input: &'a [u8],
+    pub at: Option<usize>,
 }
 
 // The value of some digits, and how many they are.
@@ -14,30 +15,6 @@ pub struct Number {
 struct Digits {
     value: usize,
     count: usize,
-}
-
-// The place after one byte, which must be the wanted one.
-#[tactic(auto, using(std::proofs::lemmas::Bool::Decides::nat_tests), unfolding(crate::specs::Records::stepped))]
-pub fn step(input: &[u8], at: Option<usize>, wanted: u8) -> Option<usize>
-    ensures { result ≡ stepped input.now at wanted }
-{
-    let at = at?;
-    if at < input.len() && input[at] == wanted {
-        Some(at + 1)
-    } else {
-        None
-    }
-}
-
-// The place after a word.
-pub fn keyword(input: &[u8], at: Option<usize>, word: &[u8]) -> Option<usize>
-    ensures { result ≡ worded input.now at word.now }
-{
-    let mut place = at;
-    for wanted in word {
-        place = step(input, place, *wanted);
-    }
-    place
 }
 
 // The value of a lower-case hex digit.
@@ -61,7 +38,7 @@ fn digit_at(text: &[u8], at: usize, base: usize) -> Option<usize>
     if value < base { Some(value) } else { None }
 }
 
-// The digits at the front of a text, `most` of them at most.
+// The digits at the front of a text, `most` of them at most. (Not std's `from_str_radix`: it takes a sign and capitals, and refuses a text that goes on.)
 fn read_digits(text: &[u8], base: usize, most: usize) -> Digits
     requires { base ^ most ≤ 2 ^ 64 }
     ensures { (result.value ≡ valued base 0 (digits base most text.now))
@@ -87,40 +64,81 @@ fn rest(input: &[u8], at: usize) -> &[u8]
     &[]
 }
 
-// A space and a number of `least` to `most` digits.
-fn read_number(input: &[u8], at: Option<usize>, base: usize, least: usize, most: usize) -> Number
-    requires { base ^ most ≤ 2 ^ 64 }
-    ensures { result ≡ number_at base least most input.now at }
+// The place after one byte, which must be the wanted one.
+#[tactic(auto, using(std::proofs::lemmas::Bool::Decides::nat_tests), unfolding(crate::specs::Records::stepped))]
+fn step(input: &[u8], at: Option<usize>, wanted: u8) -> Option<usize>
+    ensures { result ≡ stepped input.now at wanted }
 {
-    let Some(start) = step(input, at, b' ') else {
-        return Number {
-            value: 0,
-            next: None,
-        };
-    };
-    let found = read_digits(rest(input, start), base, most);
-    if found.count < least {
-        return Number {
-            value: found.value,
-            next: None,
-        };
-    }
-    Number {
-        value: found.value,
-        next: Some(start + found.count),
+    let at = at?;
+    if at < input.len() && input[at] == wanted {
+        Some(at + 1)
+    } else {
+        None
     }
 }
 
-// A space and a decimal number, of 19 digits at most.
-pub fn decimal(input: &[u8], at: Option<usize>) -> Number
-    ensures { result ≡ decimal_at input.now at }
-{
-    read_number(input, at, 10, 1, 19)
-}
+impl<'a> Text<'a> {
+    pub fn new(input: &'a [u8], at: usize) -> Text<'a>
+        ensures { (result.input.now ≡ input.now) × (result.at ≡ Some at) }
+    {
+        Text {
+            input,
+            at: Some(at),
+        }
+    }
 
-// A space and 16 hex digits.
-pub fn hex(input: &[u8], at: Option<usize>) -> Number
-    ensures { result ≡ hex_at input.now at }
-{
-    read_number(input, at, 16, 16, 16)
+    // One byte, which must be the wanted one.
+    fn byte(&mut self, wanted: u8)
+        ensures { self.new ≡ moved self.old (stepped self.old.input.now self.old.at wanted) }
+    {
+        self.at = step(self.input, self.at, wanted);
+    }
+
+    // By its bytes: `starts_with` would need a rest of the text beside the place, and is no shorter.
+    pub fn word(&mut self, word: &[u8])
+        ensures { self.new ≡ moved self.old (worded self.old.input.now self.old.at word.now) }
+    {
+        for wanted in word {
+            self.byte(*wanted);
+        }
+    }
+
+    // The end of a line.
+    pub fn end(&mut self)
+        ensures { self.new ≡ moved self.old (stepped self.old.input.now self.old.at 10) }
+    {
+        self.byte(b'\n');
+    }
+
+    // A space and a number of `least` to `most` digits.
+    fn number(&mut self, base: usize, least: usize, most: usize) -> usize
+        requires { base ^ most ≤ 2 ^ 64 }
+        ensures { Took self.old self.new (number_at base least most self.old.input.now self.old.at) result }
+    {
+        let Some(start) = step(self.input, self.at, b' ') else {
+            self.at = None;
+            return 0;
+        };
+        let found = read_digits(rest(self.input, start), base, most);
+        if found.count < least {
+            self.at = None;
+        } else {
+            self.at = Some(start + found.count);
+        }
+        found.value
+    }
+
+    // A space and a decimal number, of 19 digits at most.
+    pub fn whole(&mut self) -> usize
+        ensures { Took self.old self.new (decimal_at self.old.input.now self.old.at) result }
+    {
+        self.number(10, 1, 19)
+    }
+
+    // A space and 16 hex digits.
+    pub fn bits(&mut self) -> usize
+        ensures { Took self.old self.new (hex_at self.old.input.now self.old.at) result }
+    {
+        self.number(16, 16, 16)
+    }
 }

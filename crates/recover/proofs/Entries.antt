@@ -15,7 +15,7 @@ use Rattle.field.specs.Buffer.{vectors_in}
 use Rattle.network.specs.declared.Shape.{Shape}
 use Rattle.network.specs.Refusals.{Verdict}
 use Rattle.network.specs.declared.Refusal.{Refusal}
-use Rattle.network.specs.Network.{Network, network, rows}
+use Rattle.network.specs.Network.{Network, rows}
 use Rattle.network.specs.Refusals.{verdict, count_tests, length_tests, network_fits, network_row_tests, marks_after, section, bad_vector}
 use Rattle.network.specs.inner.Sound.{NetworkLengths}
 use Rattle.network.proofs.Verdicts.{stage-passed, passes-in}
@@ -36,9 +36,9 @@ buffers-fit s marks current trial room e =
     let k = both_true _ _ h.1 in
     (eqb-true _ _ g.0, vectors-fit _ _ h.0, vectors-fit _ _ k.0, eqb-true _ _ k.1)
 
-module _ (s : Shape) (ends : List ℕ) (rays weights scales points : List Float) (offsets listed : List ℕ) (marks : ℕ) (current trial : List Float) (room : ℕ) (v : Verdict) where
-  abbrev net : Network
-  net = network s ends rays weights scales points offsets listed
+module _ (net : Network) (marks : ℕ) (current trial : List Float) (room : ℕ) (v : Verdict) where
+  abbrev s : Shape
+  s = net.shape
 
   -- of the network, of the marks, and of the marked cameras l
   pub lengths-measured : (mark : Bool) (l : List Float) →

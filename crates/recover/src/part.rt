@@ -1,4 +1,5 @@
 // A camera as a part of whichever of the two buffers is current.
+// The two buffers and the mark go one by one: in a struct (tried) each clause says `lent.entry.` before them, and three public functions make one.
 ghost use Rattle.std.specs.Prelude.{◌≡◌, ◌+◌, ◌*◌, ◌≤◌, length};
 ghost use Rattle.field.specs.Vec.{at};
 ghost use Rattle.field.specs.Buffer.{vectors_in};
@@ -13,7 +14,7 @@ pub(crate) fn marked_buffer<'a>(current: &'a [f64], trial: &'a [f64], mark: bool
     if mark { trial } else { current }
 }
 
-// The three numbers of camera i, or an empty part where any of them is lacking.
+// The three numbers of camera i, or an empty part where any of them is lacking. (No `Option`: the public `camera` answers so, as document 01 has it.)
 pub(crate) fn camera_part<'a>(cameras: &'a [f64], i: usize) -> &'a [f64]
     ensures { result.now ≡ camera_part cameras.now i }
 {

@@ -1,4 +1,5 @@
 // Scales from placed cameras (`update_trial_scales`): the bearings point by point, then the directions.
+// `keeps` goes down to the row (`Sites::answer`): were it decided above, the loop over a list would stand twice, for rows that are kept and the others.
 ghost use Rattle.std.specs.Prelude.{◌≡◌, ◌+◌, ◌<◌, ◌≤◌, length, set};
 ghost use Rattle.field.specs.Buffer.{vectors_in};
 ghost use Rattle.network.specs.Network.{links_of, rows, span_of};
@@ -17,10 +18,11 @@ fn rescale_row(i: &Sites<'_>, keeps: bool, r: usize, out: &mut [f64])
         net.positions (vectors_in i.now.cameras) r) }
 {
     let scale = i.answer(keeps, r);
-    put_scale(out, r, i.scale(r), scale);
+    put_scale(out, r, i.rows().scale(r), scale);
 }
 
-// The scales of the bearings at the places k of the lists; `keeps` says whether their point's weight keeps them.
+// The scales of the bearings at the places k of the lists; `keeps` says whether their point's weight keeps them. (`listed` tells the range of each row,
+// as numbers of a slice would not.)
 fn rescale_list(i: &Sites<'_>, keeps: bool, k: Span, out: &mut [f64])
     requires size_bound { k.first + k.size ≤ i.now.net.shape.bearings }
     requires out_len { rows i.now.net.shape ≤ length out.old }
@@ -28,8 +30,9 @@ fn rescale_list(i: &Sites<'_>, keeps: bool, k: Span, out: &mut [f64])
         out.new ≡ stored_at (listed_row net.listed) (new_scale_in keeps net.shape net.ends net.rays
         net.scales net.positions (vectors_in i.now.cameras)) k.first k.size out.old }
 {
+    let links = i.rows().links();
     for j in 0..k.size {
-        let r = i.listed(k.first + j);
+        let r = links.listed(k.first + j);
         rescale_row(i, keeps, r, out);
     }
 }
@@ -41,8 +44,9 @@ fn rescale_point(i: &Sites<'_>, p: usize, out: &mut [f64])
         (new_scale i.now.net (vectors_in i.now.cameras))
         (span_of i.now.net.offsets p).first (span_of i.now.net.offsets p).size out.old }
 {
-    let k = i.span(p);
-    let keeps = i.list_weight(k) < 1e-12;
+    let rows = i.rows();
+    let k = rows.links().span(p);
+    let keeps = rows.list_weight(k) < 1e-12;
     rescale_list(i, keeps, k, out);
 }
 
@@ -54,8 +58,7 @@ fn rescale_bearings(i: &Sites<'_>, out: &mut [f64])
         0 i.now.net.shape.bearings out.old }
     ensures links_sound { LinksSound (links_of i.now.net) }
 {
-    let s = i.shape();
-    for p in 0..s.points {
+    for p in 0..i.rows().links().shape().points {
         rescale_point(i, p, out);
     }
 }
@@ -76,10 +79,11 @@ fn rescale_directions(i: &Sites<'_>, out: &mut [f64])
         (vectors_in i.now.cameras))
         net.shape.bearings net.shape.directions out.old }
 {
-    let s = i.shape();
+    let rows = i.rows();
+    let s = rows.shape();
     let b = s.bearings;
     for r in b..b + s.directions {
-        let keeps = keeps_direction(b, i.weight(r));
+        let keeps = keeps_direction(b, rows.weight(r));
         rescale_row(i, keeps, r, out);
     }
 }

@@ -1,10 +1,8 @@
 // The rows with their ends where they are placed: a row's baseline, its dot and its scale answer.
-ghost use Rattle.std.specs.Prelude.{◌≡◌, ◌+◌, ◌*◌, ◌≤◌, ◌<◌, length, set, get_or};
-ghost use Rattle.std.specs.Float.{nan};
-ghost use Rattle.field.specs.Buffer.{get, vector, vectors_in};
-ghost use Rattle.network.specs.Network.{network, links_of, rows, span_of};
-ghost use Rattle.network.specs.inner.Sound.{LinksSound};
-ghost use Rattle.system.specs.System.{effective_in, weight_sum};
+ghost use Rattle.std.specs.Prelude.{◌≡◌, ◌+◌, ◌*◌, ◌≤◌, ◌<◌, length, set};
+ghost use Rattle.field.specs.Buffer.{vectors_in};
+ghost use Rattle.network.specs.Network.{rows};
+ghost use Rattle.system.specs.System.{rows_of};
 ghost use Rattle.recover.specs.Recover.{near_end, far_end, baseline_in, dot_in, renewal, answer_in, scale_number};
 ghost use Rattle.recover.specs.inner.Reads.{SitesSound, sites};
 
@@ -12,79 +10,45 @@ use crate::Scale;
 use crate::part::position;
 use double::max;
 use field::{Vec3, get3};
-use network::links::{Ends, listed_at, span_of};
-use network::{Shape, Span};
+use network::lent::Network;
 use std::marker::Model;
-use system::points::point_weight;
+use system::numbers::Rows;
 
 // What the tests of a call of dots or scales have shown, as a type: a value stands for slices that passed them.
 #[derive(Drop)]
 pub(crate) struct Sites<'a> {
-    ends: Ends<'a>,
-    rays: &'a [f64],
-    weights: &'a [f64],
-    scales: &'a [f64],
+    rows: Rows<'a>,
     points: &'a [f64],
-    offsets: &'a [usize],
-    listed: &'a [usize],
     cameras: &'a [f64],
 }
 
 impl<'a> Model for Sites<'a> {
-    ghost use Rattle.network.specs.Network.{network};
+    ghost use Rattle.system.specs.System.{network_of};
     ghost use Rattle.recover.specs.inner.Reads.{Sites, SitesSound, sites};
 
     ghost Value = { Sites };
 
-    ghost view = { λ i. sites (network i.ends.shape i.ends.ends i.rays.now i.weights.now i.scales.now i.points.now i.offsets.now i.listed.now) i.cameras.now };
+    ghost view = { λ i. sites (network_of i.rows i.points.now) i.cameras.now };
 
-    ghost invariant = { λ i. SitesSound (sites (network i.ends.shape i.ends.ends i.rays.now i.weights.now i.scales.now i.points.now i.offsets.now i.listed.now) i.cameras.now) };
+    ghost invariant = { λ i. SitesSound (sites (network_of i.rows i.points.now) i.cameras.now) };
 }
 
 impl<'a> Sites<'a> {
-    pub(crate) fn new(
-        s: Shape,
-        ends: &'a [usize],
-        rays: &'a [f64],
-        weights: &'a [f64],
-        scales: &'a [f64],
-        points: &'a [f64],
-        offsets: &'a [usize],
-        listed: &'a [usize],
-        cameras: &'a [f64],
-    ) -> Sites<'a>
-        requires { SitesSound (sites
-            (network s ends.now rays.now weights.now scales.now points.now
-            offsets.now listed.now) cameras.now) }
-        ensures { result ≡ sites
-            (network s ends.now rays.now weights.now scales.now points.now
-            offsets.now listed.now) cameras.now }
+    pub(crate) fn new(net: &Network<'a>, cameras: &'a [f64]) -> Sites<'a>
+        requires { SitesSound (sites net.now cameras.now) }
+        ensures { result ≡ sites net.now cameras.now }
     {
         Sites {
-            ends: Ends::new(s, ends),
-            rays,
-            weights,
-            scales,
-            points,
-            offsets,
-            listed,
+            rows: Rows::new(net),
+            points: net.points,
             cameras,
         }
     }
 
-    pub(crate) fn shape(&self) -> Shape
-        ensures value { result ≡ self.now.net.shape }
-        ensures links_sound { LinksSound (links_of self.now.net) }
+    pub(crate) fn rows(&self) -> &Rows<'a>
+        ensures { result.now ≡ rows_of self.now.net }
     {
-        self.ends.shape()
-    }
-
-    // The ray of row r.
-    fn ray(&self, r: usize) -> Vec3
-        requires { r < rows self.now.net.shape }
-        ensures { result ≡ get vector self.now.net.rays (3 * r) }
-    {
-        get3(self.rays, 3 * r)
+        &self.rows
     }
 
     // The camera of a bearing, the source of a direction.
@@ -92,7 +56,7 @@ impl<'a> Sites<'a> {
         requires { r < rows self.now.net.shape }
         ensures { result ≡ near_end self.now.net.ends (vectors_in self.now.cameras) r }
     {
-        position(self.cameras, self.ends.camera(r))
+        position(self.cameras, self.rows.links().ends().camera(r))
     }
 
     // The point of a bearing, the target of a direction.
@@ -100,11 +64,11 @@ impl<'a> Sites<'a> {
         requires { r < rows self.now.net.shape }
         ensures { result ≡ far_end self.now.net.shape self.now.net.ends self.now.net.positions (vectors_in self.now.cameras) r }
     {
-        let s = self.ends.shape();
-        if r < s.bearings {
-            return get3(self.points, 3 * self.ends.point(r));
+        let ends = self.rows.links().ends();
+        if r < ends.shape().bearings {
+            return get3(self.points, 3 * ends.point(r));
         }
-        position(self.cameras, self.ends.target(r))
+        position(self.cameras, ends.target(r))
     }
 
     // Point - camera of a bearing, target - source of a direction.
@@ -113,7 +77,7 @@ impl<'a> Sites<'a> {
         ensures { result ≡ baseline_in self.now.net.shape self.now.net.ends self.now.net.positions (vectors_in self.now.cameras) r }
     {
         let near = self.near_end(r);
-        self.far_end(r).sub(near)
+        self.far_end(r) - near
     }
 
     // The dot of a row with its baseline.
@@ -122,7 +86,7 @@ impl<'a> Sites<'a> {
         ensures { let net = self.now.net in
             result ≡ dot_in net.shape net.ends net.rays net.positions (vectors_in self.now.cameras) r }
     {
-        self.ray(r).dot(self.baseline(r))
+        self.rows().ray(r).dot(self.baseline(r))
     }
 
     // The scale answer of a row; `keeps` says whether its weight keeps the scale.
@@ -134,48 +98,7 @@ impl<'a> Sites<'a> {
         if keeps {
             return Scale::Kept;
         }
-        renew(self.ray(r), self.baseline(r))
-    }
-
-    pub(crate) fn weight(&self, r: usize) -> f64
-        requires { r < rows self.now.net.shape }
-        ensures { result ≡ get_or self.now.net.weights r nan }
-    {
-        let weights = self.weights;
-        weights[r]
-    }
-
-    pub(crate) fn scale(&self, r: usize) -> f64
-        requires { r < rows self.now.net.shape }
-        ensures { result ≡ get_or self.now.net.scales r nan }
-    {
-        let scales = self.scales;
-        scales[r]
-    }
-
-    // The places of the lists that point p has.
-    pub(crate) fn span(&self, p: usize) -> Span
-        requires { p < self.now.net.shape.points }
-        ensures value { (result ≡ span_of self.now.net.offsets p) × (result.first + result.size ≤ self.now.net.shape.bearings) }
-        ensures links_sound { LinksSound (links_of self.now.net) }
-    {
-        span_of(self.ends.shape(), self.offsets, p)
-    }
-
-    // The bearing at place k of the lists.
-    pub(crate) fn listed(&self, k: usize) -> usize
-        requires { k < self.now.net.shape.bearings }
-        ensures { (result ≡ get_or self.now.net.listed k 0) × (result < self.now.net.shape.bearings) }
-    {
-        listed_at(self.ends.shape(), self.listed, k)
-    }
-
-    // W: the weight of the rows at the places k of the lists.
-    pub(crate) fn list_weight(&self, k: Span) -> f64
-        requires { k.first + k.size ≤ self.now.net.shape.bearings }
-        ensures { let net = self.now.net in result ≡ weight_sum (effective_in net.weights net.scales) net.listed k }
-    {
-        point_weight(self.ends.shape(), self.weights, self.scales, self.listed, k)
+        renew(self.rows().ray(r), self.baseline(r))
     }
 }
 

@@ -1,16 +1,18 @@
 // Replays a sample of the oracle's answers, read from standard input, and compares them bit for bit.
 // What it must print is the file `stdout`; each comparison that fails is a line more.
+// No heap: the buffers are arrays for 64 of each count. Printed piece by piece: `println!` takes the runtime through each function, and answers a result.
+// Numbers stand for route and refusal as the text has them.
 #![tactic(auto)]
-
-mod text;
 
 ghost use Rattle.std.specs.Prelude.{◌≤◌, length};
 
 use io::{print_decimal, write_all};
+use network::lent::Network;
 use network::{Refusal, Shape};
 use placement::Report;
+use records::text::Text;
+use std::marker::Model;
 use system::work::work_length;
-use text::Text;
 
 // What the buffers hold before a call: the work buffer, and every output.
 const JUNK: f64 = 1.5e300;
@@ -20,25 +22,58 @@ const CANARY: f64 = -7.25;
 // What the mark buffers hold before a call.
 const MARK: usize = 9;
 
-// The counts of a case and what is asked of the solve.
-#[derive(Clone, Copy)]
-struct Case {
+// The counts of a case, each at most 64, and what is asked of the solve.
+#[derive(Drop)]
+struct Head {
     number: usize,
     shape: Shape,
     route: usize,
     limit: usize,
 }
 
-// The lists of a case.
-#[derive(Clone, Copy)]
-struct Lists<'a> {
-    ends: &'a [usize],
-    rays: &'a [f64],
-    weights: &'a [f64],
-    scales: &'a [f64],
-    points: &'a [f64],
-    offsets: &'a [usize],
-    listed: &'a [usize],
+impl Model for Head {
+    ghost use Rattle.std.specs.Prelude.{◌≤◌};
+    ghost use Rattle.network.specs.declared.Shape.{Shape};
+
+    ghost Value = { Shape };
+
+    ghost view = { λ h. h.shape };
+
+    ghost invariant = { λ h. (h.shape.cameras ≤ 64) × (h.shape.points ≤ 64) × (h.shape.bearings ≤ 64) × (h.shape.directions ≤ 64) };
+}
+
+impl Head {
+    fn shape(&self) -> Shape
+        ensures { (result.cameras ≤ 64) × (result.points ≤ 64) × (result.bearings ≤ 64) × (result.directions ≤ 64) }
+    {
+        self.shape
+    }
+
+    // Says which comparison of which case fails.
+    fn judge(&self, what: &[u8], same: bool) -> bool {
+        if !same {
+            write_all(1, b"case ");
+            print_decimal(1, self.number as u64);
+            write_all(1, b": ");
+            write_all(1, what);
+            write_all(1, b"\n");
+        }
+        same
+    }
+
+    // The doubles that the solve's work buffer needs; 0 of a refusal.
+    fn needed(&self) -> usize
+        ensures { result ≤ 8192 }
+    {
+        work_length(self.shape(), self.route, self.limit).map_or(0, |length| length.min(8192))
+    }
+}
+
+// A case: its lists too, and the positions that dots and scales take.
+#[derive(Drop)]
+struct Case<'a> {
+    head: Head,
+    net: Network<'a>,
     positions: &'a [f64],
 }
 
@@ -49,59 +84,6 @@ struct Tally {
     agree: usize,
     accepted: [usize; 4],
     refused: [usize; 24],
-}
-
-// Says which comparison of which case fails.
-fn judge(case: Case, what: &[u8], same: bool) -> bool {
-    if !same {
-        write_all(1, b"case ");
-        print_decimal(1, case.number as u64);
-        write_all(1, b": ");
-        write_all(1, what);
-        write_all(1, b"\n");
-    }
-    same
-}
-
-fn check_connected(case: Case, lists: Lists, text: &mut Text) -> bool {
-    let mut nodes = [7usize; 128];
-    // 1 or 0, or 2 of a refusal
-    let answer = match graph::is_connected(case.shape, lists.ends, lists.weights, &mut nodes) {
-        Err(_) => 2,
-        Ok(true) => 1,
-        Ok(false) => 0,
-    };
-    text.word(b"connected");
-    let same = text.whole() == answer;
-    text.end();
-    judge(case, b"connected", same)
-}
-
-fn check_parts(case: Case, lists: Lists, text: &mut Text) -> bool
-    requires { case.shape.cameras ≤ 64 }
-{
-    let mut nodes = [7usize; 128];
-    let mut labels = [7usize; 64];
-    let labels = &mut labels[..case.shape.cameras];
-    // 0 of a refusal
-    let count = match graph::parts(case.shape, lists.ends, lists.weights, &mut nodes, labels) {
-        Err(_) => 0,
-        Ok(count) => count,
-    };
-    text.word(b"parts");
-    let same = text.whole() == count;
-    let labelled = text.same_wholes(labels);
-    judge(case, b"parts", same && labelled)
-}
-
-// The doubles that the solve's work buffer needs.
-fn needed(case: Case) -> usize
-    ensures { result ≤ 8192 }
-{
-    match work_length(case.shape, case.route, case.limit) {
-        Err(_) => 0,
-        Ok(length) => length.min(8192),
-    }
 }
 
 // An answer of a text: an accepted solve, or number and place of a refusal.
@@ -125,9 +107,7 @@ fn read_answer(text: &mut Text) -> Result<Report, (usize, usize)> {
 
 fn same_answer(answer: Result<Report, Refusal>, wanted: Result<Report, (usize, usize)>) -> bool {
     match (answer, wanted) {
-        (Ok(a), Ok(b)) => {
-            a.anchor == b.anchor && a.route == b.route && a.rounds == b.rounds && a.few == b.few
-        }
+        (Ok(a), Ok(b)) => a == b,
         (Err(r), Err((number, place))) => r.cause.number() == number && r.place == place,
         _ => false,
     }
@@ -178,122 +158,127 @@ fn is_cleared(work: &[f64], needed: usize) -> bool
     all_are(&work[..needed], 0.0) && all_are(&work[needed..], JUNK)
 }
 
-fn check_solve(case: Case, lists: Lists, text: &mut Text, tally: &mut Tally) -> bool
-    requires { (case.shape.cameras ≤ 64) × (case.shape.points ≤ 64) × (case.shape.bearings ≤ 64) }
-{
-    let s = case.shape;
-    let needed = needed(case);
-    // as many doubles as it needs, or one or two more
-    let lent = needed + case.number % 3;
-    let mut marks = [MARK; 64];
-    let mut work = [JUNK; 8194];
-    let mut cameras = [CANARY; 192];
-    let mut placed = [CANARY; 192];
-    let answer = placement::solve(
-        s,
-        lists.ends,
-        lists.rays,
-        lists.weights,
-        lists.scales,
-        lists.points,
-        lists.offsets,
-        lists.listed,
-        &mut marks[..s.bearings],
-        case.route,
-        case.limit,
-        &mut work[..lent],
-        &mut cameras[..3 * s.cameras],
-        &mut placed[..3 * s.points],
-    );
-    count_answer(answer, tally);
-    let wanted = read_answer(text);
-    let answered = judge(case, b"answer", same_answer(answer, wanted));
-    let cleared = judge(case, b"work", is_cleared(&work, needed));
-    // of a refused solve the outputs are untouched
-    let (k, q) = if wanted.is_ok() {
-        (3 * s.cameras, 3 * s.points)
-    } else {
-        (0, 0)
-    };
-    let first = judge(case, b"cameras", same_output(b"cameras", &cameras, k, text));
-    let second = judge(case, b"placed", same_output(b"placed", &placed, q, text));
-    let unmarked = judge(case, b"marks", unmarked(&marks, s.bearings));
-    answered && cleared && first && second && unmarked
+impl<'a> Case<'a> {
+    fn check_connected(&self, text: &mut Text) -> bool {
+        let mut nodes = [7usize; 128];
+        let net = &self.net;
+        // 1 or 0, or 2 of a refusal: a text that has 2 there agrees with one
+        let answer = graph::is_connected(
+            self.head.shape(),
+            net.ends,
+            net.weights,
+            &mut nodes,
+        ).map_or(2, usize::from);
+        text.word(b"connected");
+        let same = text.whole() == answer;
+        text.end();
+        self.head.judge(b"connected", same)
+    }
+
+    fn check_parts(&self, text: &mut Text) -> bool {
+        let mut nodes = [7usize; 128];
+        let mut labels = [7usize; 64];
+        let s = self.head.shape();
+        let labels = &mut labels[..s.cameras];
+        let net = &self.net;
+        // 0 of a refusal: a text that has 0 there agrees with one
+        let count = graph::parts(s, net.ends, net.weights, &mut nodes, labels).unwrap_or(0);
+        text.word(b"parts");
+        let same = text.whole() == count;
+        let labelled = text.same_wholes(labels);
+        self.head.judge(b"parts", same && labelled)
+    }
+
+    fn check_solve(&self, text: &mut Text, tally: &mut Tally) -> bool {
+        let head = &self.head;
+        let s = head.shape();
+        let needed = head.needed();
+        // as many doubles as it needs, or one or two more
+        let lent = needed + head.number % 3;
+        let mut marks = [MARK; 64];
+        let mut work = [JUNK; 8194];
+        let mut cameras = [CANARY; 192];
+        let mut placed = [CANARY; 192];
+        let answer = placement::solve(
+            &self.net,
+            &mut marks[..s.bearings],
+            head.route,
+            head.limit,
+            &mut work[..lent],
+            &mut cameras[..3 * s.cameras],
+            &mut placed[..3 * s.points],
+        );
+        count_answer(answer, tally);
+        let wanted = read_answer(text);
+        let answered = head.judge(b"answer", same_answer(answer, wanted));
+        let cleared = head.judge(b"work", is_cleared(&work, needed));
+        // of a refused solve the outputs are untouched
+        let (k, q) = if wanted.is_ok() {
+            (3 * s.cameras, 3 * s.points)
+        } else {
+            (0, 0)
+        };
+        let first = head.judge(b"cameras", same_output(b"cameras", &cameras, k, text));
+        let second = head.judge(b"placed", same_output(b"placed", &placed, q, text));
+        let unmarked = head.judge(b"marks", unmarked(&marks, s.bearings));
+        answered && cleared && first && second && unmarked
+    }
+
+    // The dots, or the new scales: `fill` fills a number for each row.
+    fn check_rows<F>(&self, word: &[u8], text: &mut Text, fill: F) -> bool
+    where
+        F: FnOnce(&mut [usize], &mut [f64]) -> Result<(), Refusal>,
+        requires { F.IsAlwaysCallable fill }
+    {
+        let s = self.head.shape();
+        let k = s.bearings + s.directions;
+        let mut marks = [MARK; 64];
+        let mut out = [CANARY; 128];
+        let same = match fill(&mut marks[..s.bearings], &mut out[..k]) {
+            Ok(()) => same_output(word, &out, k, text),
+            Err(_) => {
+                // there is nothing to compare
+                text.at = None;
+                false
+            }
+        };
+        let same = self.head.judge(word, same);
+        let unmarked = self.head.judge(b"marks", unmarked(&marks, s.bearings));
+        same && unmarked
+    }
+
+    fn check_dots(&self, text: &mut Text) -> bool {
+        let net = &self.net;
+        let positions = self.positions;
+        let trial = [CANARY; 192];
+        let trial = &trial[..3 * self.head.shape().cameras];
+        let dots = self.check_rows(b"dots", text, |marks, out| {
+            recover::dots(net, marks, positions, trial, false, out)
+        });
+        let renewed = self.check_rows(b"renewed", text, |marks, out| {
+            recover::scales(net, marks, positions, trial, false, out)
+        });
+        dots && renewed
+    }
+
+    // No `?` on a lost place: each comparison of a broken case is printed.
+    fn check_all(&self, text: &mut Text, tally: &mut Tally) -> bool {
+        let connected = self.check_connected(text);
+        let parts = self.check_parts(text);
+        let solved = self.check_solve(text, tally);
+        let rows = self.check_dots(text);
+        let whole = self.head.judge(b"text", text.at.is_some());
+        connected && parts && solved && rows && whole
+    }
 }
 
-// The dots, or the new scales: `fill` fills a number for each row.
-fn check_rows<F>(case: Case, word: &[u8], text: &mut Text, fill: F) -> bool
-where
-    F: FnOnce(&mut [usize], &mut [f64]) -> Result<(), Refusal>,
-    requires callable { F.IsAlwaysCallable fill }
-    requires bounds { (case.shape.bearings ≤ 64) × (case.shape.directions ≤ 64) }
-{
-    let s = case.shape;
-    let k = s.bearings + s.directions;
-    let mut marks = [MARK; 64];
-    let mut out = [CANARY; 128];
-    let same = match fill(&mut marks[..s.bearings], &mut out[..k]) {
-        Ok(()) => same_output(word, &out, k, text),
-        Err(_) => {
-            // there is nothing to compare
-            text.at = None;
-            false
-        }
-    };
-    let same = judge(case, word, same);
-    let unmarked = judge(case, b"marks", unmarked(&marks, s.bearings));
-    same && unmarked
-}
-
-fn check_dots(case: Case, lists: Lists, text: &mut Text) -> bool
-    requires { (case.shape.cameras ≤ 64) × (case.shape.bearings ≤ 64) × (case.shape.directions ≤ 64) }
-{
-    let trial = [CANARY; 192];
-    let trial = &trial[..3 * case.shape.cameras];
-    let dots = check_rows(case, b"dots", text, |marks, out| {
-        recover::dots(
-            case.shape,
-            lists.ends,
-            lists.rays,
-            lists.weights,
-            lists.scales,
-            lists.points,
-            lists.offsets,
-            lists.listed,
-            marks,
-            lists.positions,
-            trial,
-            false,
-            out,
-        )
-    });
-    let renewed = check_rows(case, b"renewed", text, |marks, out| {
-        recover::scales(
-            case.shape,
-            lists.ends,
-            lists.rays,
-            lists.weights,
-            lists.scales,
-            lists.points,
-            lists.offsets,
-            lists.listed,
-            marks,
-            lists.positions,
-            trial,
-            false,
-            out,
-        )
-    });
-    dots && renewed
-}
-
-// Reads the first three lines of a case.
-fn read_case(text: &mut Text) -> Case {
+// Reads the first three lines of a case: None where a count is over 64.
+fn read_head(text: &mut Text) -> Option<Head> {
     text.word(b"case");
     let number = text.whole();
     text.end();
     text.word(b"counts");
-    let shape = Shape {
+    let s = Shape {
         cameras: text.whole(),
         points: text.whole(),
         bearings: text.whole(),
@@ -304,30 +289,20 @@ fn read_case(text: &mut Text) -> Case {
     let route = text.whole();
     let limit = text.whole();
     text.end();
-    Case {
+    if 64 < s.cameras || 64 < s.points || 64 < s.bearings || 64 < s.directions {
+        return None;
+    }
+    Some(Head {
         number,
-        shape,
+        shape: s,
         route,
         limit,
-    }
-}
-
-fn check_all(case: Case, lists: Lists, text: &mut Text, tally: &mut Tally) -> bool
-    requires { (case.shape.cameras ≤ 64) × (case.shape.points ≤ 64) × (case.shape.bearings ≤ 64) × (case.shape.directions ≤ 64) }
-{
-    let connected = check_connected(case, lists, text);
-    let parts = check_parts(case, lists, text);
-    let solved = check_solve(case, lists, text, tally);
-    let rows = check_dots(case, lists, text);
-    let whole = judge(case, b"text", text.at.is_some());
-    connected && parts && solved && rows && whole
+    })
 }
 
 // Reads the lists of a case, and compares its answers.
-fn replay_lists(case: Case, text: &mut Text, tally: &mut Tally) -> bool
-    requires { (case.shape.cameras ≤ 64) × (case.shape.points ≤ 64) × (case.shape.bearings ≤ 64) × (case.shape.directions ≤ 64) }
-{
-    let s = case.shape;
+fn replay_lists(head: Head, text: &mut Text, tally: &mut Tally) -> bool {
+    let s = head.shape();
     let k = s.bearings + s.directions;
     let mut ends = [0usize; 256];
     let mut rays = [0.0; 384];
@@ -337,28 +312,39 @@ fn replay_lists(case: Case, text: &mut Text, tally: &mut Tally) -> bool
     let mut offsets = [0usize; 65];
     let mut listed = [0usize; 64];
     let mut positions = [0.0; 192];
-    let lists = Lists {
-        ends: text.wholes(b"ends", &mut ends[..2 * k]),
-        rays: text.reals(b"rays", &mut rays[..3 * k]),
-        weights: text.reals(b"weights", &mut weights[..k]),
-        scales: text.reals(b"scales", &mut scales[..k]),
-        points: text.reals(b"points", &mut points[..3 * s.points]),
-        offsets: text.wholes(b"offsets", &mut offsets[..s.points + 1]),
-        listed: text.wholes(b"rows", &mut listed[..s.bearings]),
-        positions: text.reals(b"positions", &mut positions[..3 * s.cameras]),
+    text.wholes(b"ends", &mut ends[..2 * k]);
+    text.reals(b"rays", &mut rays[..3 * k]);
+    text.reals(b"weights", &mut weights[..k]);
+    text.reals(b"scales", &mut scales[..k]);
+    text.reals(b"points", &mut points[..3 * s.points]);
+    text.wholes(b"offsets", &mut offsets[..s.points + 1]);
+    text.wholes(b"rows", &mut listed[..s.bearings]);
+    text.reals(b"positions", &mut positions[..3 * s.cameras]);
+    let net = Network {
+        shape: s,
+        ends: &ends[..2 * k],
+        rays: &rays[..3 * k],
+        weights: &weights[..k],
+        scales: &scales[..k],
+        points: &points[..3 * s.points],
+        offsets: &offsets[..s.points + 1],
+        listed: &listed[..s.bearings],
     };
-    check_all(case, lists, text, tally)
+    let case = Case {
+        head,
+        net,
+        positions: &positions[..3 * s.cameras],
+    };
+    case.check_all(text, tally)
 }
 
 fn replay(text: &mut Text, tally: &mut Tally) -> bool {
-    let case = read_case(text);
-    let s = case.shape;
-    if 64 < s.cameras || 64 < s.points || 64 < s.bearings || 64 < s.directions {
+    let Some(head) = read_head(text) else {
         write_all(1, b"case too large\n");
         text.at = None;
         return false;
-    }
-    replay_lists(case, text, tally)
+    };
+    replay_lists(head, text, tally)
 }
 
 // The place of the first case.
@@ -383,6 +369,7 @@ fn replay_all(input: &[u8]) -> Tally {
     };
     let mut at = skip_comments(input);
     let mut text = Text::new(input, at);
+    // no `for`: where a case ends is known once it is replayed
     while at < input.len() {
         let same = replay(&mut text, &mut tally);
         // where the text is lost, no case is left

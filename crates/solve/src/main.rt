@@ -1,5 +1,6 @@
 // Reads a network image from standard input, solves it and prints the answer. What is printed is the text of `command::run`.
 // Where reading or writing fails, a line on standard error says so. The exit status is 0 all the same.
+// No heap: input and text are arrays of the largest sizes.
 #![tactic(auto)]
 
 use command::run;

@@ -15,15 +15,22 @@ use Rattle.field.proofs.Counting.{length-field, get_or-field, upto-ext}
 use Rattle.field.proofs.Buffers.{Apart, Lawful, get_or-part, at_load, part_apart, part_same, length-flat, length-store, load_store, drop-store, store-number}
 use Rattle.field.proofs.Buffers.{number-lawful, vector-lawful}
 use Rattle.network.specs.declared.Shape.{Shape}
-use Rattle.network.specs.Network.{rows, second_end, links}
-use Rattle.network.specs.inner.Sound.{EndsSound, LinksSound}
+use Rattle.network.specs.Network.{Network, rows, second_end, links}
+use Rattle.network.specs.inner.Sound.{EndsSound, LinksSound, NetworkSound}
 use Rattle.system.specs.declared.CameraTerm.{CameraTerm}
-use Rattle.system.specs.System.{Sums, add_bearing, add_direction, assemble_row, assemble_rows, terms_by, anchor_of, effective_in, pull_in, sums_from}
+use Rattle.system.specs.System.{rows_of, Sums, add_bearing, add_direction, assemble_row, assemble_rows, terms_by, anchor_of, effective_in, pull_in, sums_from}
 use Rattle.system.specs.Work.{weights_at, means_at, effective_at, matrix_at, term}
-use Rattle.system.specs.inner.Formed.{sums_in, summed, Formed}
+use Rattle.system.specs.inner.Formed.{RowsSound, sums_in, summed, Formed}
 use Rattle.system.proofs.Anchor.{anchor-below}
 use Rattle.system.proofs.Rows.{length-terms}
 use Rattle.system.proofs.Terms.{term-lawful}
+
+-- ---- a network that was not refused
+
+pub rows-sound : (net : Network) → NetworkSound net → RowsSound (rows_of net)
+rows-sound net N =
+    let d = N.lengths.content.domain in
+    record { links = N.links; numbers = record { rays = omega (arith, d.rays); weights = omega (arith, d.weights); scales = omega (arith, d.scales) } }
 
 -- ---- what is read of a segment
 

@@ -3,23 +3,26 @@ use mathlib.Core.Path.{◌≡◌, refl, sym, ap, ◌∙◌}
 use mathlib.Core.Logic.{inr}
 use mathlib.Core.List.{List}
 use mathlib.Core.Bool.{true, false}
-use Prim.Native.Nat.{ℕ, suc, ◌+◌, ◌*◌, ◌<◌}
+use Prim.Native.Nat.{ℕ, suc, ◌+◌, ◌-◌, ◌*◌, ◌≤◌, ◌<◌}
 use native.Mathlib.Numerals.{add-one}
 use native.Mathlib.Omega.{arith}
-use lib.ListN.{get_or, set}
+use native.Mathlib.Nat.{zero-add, one-mul}
+use borrow.Rule.Slice.PartMut.{put_mid, mid_of}
+use lib.Seq.{drop-drop}
+use lib.ListN.{length, get_or, drop, set}
 use lib.Ieee.{Float, binary64, add, lt}
 use Rattle.field.specs.declared.Vec3.{Vec3}
 use Rattle.field.specs.Vec.{null, origin, plus, over}
 use Rattle.field.specs.Count.{field, upto}
-use Rattle.field.specs.Buffer.{put, store, number, vector}
-use Rattle.field.proofs.Counting.{upto-suc}
-use Rattle.field.proofs.Buffers.{number-set, number-lawful, vector-lawful, map_more, store-more, store-none, put-store-comm}
+use Rattle.field.specs.Buffer.{put, store, number, vector, write, part}
+use Rattle.field.proofs.Counting.{upto-suc, length-field}
+use Rattle.field.proofs.Buffers.{number-set, number-lawful, vector-lawful, map_more, store-more, store-none, put-store-comm, store-whole, store-number, flat-number, write-split, length_part}
 use Rattle.double.specs.Sums.{total}
 use Rattle.network.specs.declared.Shape.{Shape}
 use Rattle.network.specs.declared.Span.{Span}
-use Rattle.network.specs.Network.{span_of}
+use Rattle.network.specs.Network.{span_of, rows}
 use Rattle.system.specs.System.{tiny, effective_in, pull_in, weight_sum, pull_sum, mean_of, sums_from, Sums}
-use Rattle.system.specs.Work.{weights_at, means_at}
+use Rattle.system.specs.Work.{weights_at, means_at, effective_at, matrix_at}
 use Rattle.system.specs.declared.points.ListSums.{ListSums}
 use Rattle.system.specs.declared.points.PointSums.{PointSums}
 use Rattle.system.specs.inner.Formed.{point_stored, summed}
@@ -64,6 +67,31 @@ mean-below w v u h e = rw h e
 
 pub numbers_more : (l : List Float) (p i : ℕ) (g : ℕ → Float) (w : List Float) (a : Float) → w ≡ store number l p (field i g) → a ≡ g i → set w (p + i) a ≡ store number l p (field (i + 1) g)
 numbers_more l p i g w a e h = rw add-one (sym (number-set w p i a) ∙ map_more number number-lawful l p i g w a e h)
+
+-- numbers in a part that is lent: one more, and the part put back full
+pub weights-more : (l w : List Float) (i : ℕ) (g : ℕ → Float) (a : Float) → w ≡ store number l 0 (field i g) → a ≡ g i → set w i a ≡ store number l 0 (field (i + 1) g)
+weights-more l w i g a e h = ap (λ (k : ℕ). set w k a) (sym (zero-add i)) ∙ numbers_more l 0 i g w a e h
+
+weights-ended : (l m : List Float) (p n i : ℕ) (g : ℕ → Float) → p + n ≤ length l → let w = mid_of p (p + n - p) l in
+    m ≡ store number w 0 (field i g) → i ≤ length w → length w ≤ i → length m ≡ length w → put_mid p (p + n - p) l m ≡ store number l p (field n g)
+weights-ended l m p n i g h e a b k =
+    let q : p + n - p ≡ n = omega arith in
+    let lw : length (part l p n) ≡ n = length_part l p n h in
+    let lm : length m ≡ n = k ∙ rw q lw in
+    let j : i ≡ n = omega arith in
+    let f : m ≡ field n g =
+    rw (q, j) at e ∙ store-whole number number-lawful (part l p n) (field n g) (rw (length-field n g, one-mul) lw) ∙ flat-number (field n g) in
+    let r : drop n (drop p l) ≡ drop (p + length m) l = rw lm (drop-drop n p l) in
+    rw (q, r) (sym (write-split l p m (omega arith)) ∙ ap (write l p) f) ∙ sym (store-number l p (field n g))
+
+pub weights-filled : (l m : List Float) (s t : Shape) (p i : ℕ) (g : ℕ → Float) → s ≡ t → p ≡ effective_at s → matrix_at t ≤ length l →
+    let n = s.bearings + s.directions in let w = mid_of p (p + n - p) l in
+    m ≡ store number w 0 (field i g) → i ≤ length w → length w ≤ i → length m ≡ length w →
+    put_mid p (p + n - p) l m ≡ store number l (effective_at t) (field (rows t) g)
+weights-filled l m s t p i g es ep h e a b k =
+    let h2 : matrix_at s ≤ length l = rw (← es) at h in
+    let h3 : p + (s.bearings + s.directions) ≤ length l = omega arith in
+    weights-ended l m p (s.bearings + s.directions) i g h3 e a b k ∙ rw (ep, es) refl
 
 -- a number and a vector stored at places that are known
 pub stored_at : (l m : List Float) (a b p q : ℕ) (w : Float) (v : Vec3) → a ≡ p → b ≡ q → (i j : ℕ) → m ≡ put vector (set l (a + i) w) (b + j) v → m ≡ put vector (set l (p + i) w) (q + j) v

@@ -11,7 +11,7 @@ use Rattle.field.specs.Buffer.{get, vector}
 use Rattle.double.specs.Sums.{total}
 use Rattle.network.specs.declared.Shape.{Shape}
 use Rattle.network.specs.declared.Span.{Span}
-use Rattle.network.specs.Network.{Network, rows, first_end, second_end, is_bearing, span_of, row_at}
+use Rattle.network.specs.Network.{Links, Network, network, links_of, rows, first_end, second_end, is_bearing, span_of, row_at}
 use Rattle.network.specs.Lists.{none}
 use Rattle.system.specs.declared.CameraTerm.{CameraTerm}
 
@@ -35,15 +35,23 @@ minus_one = of_bits binary64 0xbff0000000000000
 
 -- ---- rows
 
--- What the rows carry: their rays, weights and scales.
+-- What the rows tie together and what they carry: their links, rays, weights and scales.
 pub record RowNumbers : Type 0 where
-  pub shape : Shape
+  pub links : Links
   pub rays : List Float
   pub weights : List Float
   pub scales : List Float
 
-abbrev pub row_numbers : Shape → List Float → List Float → List Float → RowNumbers
-row_numbers s rays weights scales = record { shape = s; rays = rays; weights = weights; scales = scales }
+abbrev pub row_numbers : Links → List Float → List Float → List Float → RowNumbers
+row_numbers L rays weights scales = record { links = L; rays = rays; weights = weights; scales = scales }
+
+-- the network of these rows and of the points as they were
+abbrev pub network_of : RowNumbers → List Float → Network
+network_of R points = network R.links.shape R.links.ends R.rays R.weights R.scales points R.links.offsets R.links.listed
+
+-- and back: a network's rows
+abbrev pub rows_of : Network → RowNumbers
+rows_of net = row_numbers (links_of net) net.rays net.weights net.scales
 
 -- (weight × scale) × scale
 abbrev pub effective_of : Float → Float → Float
@@ -101,7 +109,10 @@ sums_from rays weights scales offsets listed = record {
   mean = λ p. mean_of (point_weight_in weights scales offsets listed p) (pull_sum (pull_in rays weights scales) listed (span_of offsets p));
 }
 
--- the network's own
+-- the rows' own, and the network's
+abbrev pub row_sums : RowNumbers → Sums
+row_sums R = sums_from R.rays R.weights R.scales R.links.offsets R.links.listed
+
 abbrev pub sums_of : Network → Sums
 sums_of net = sums_from net.rays net.weights net.scales net.offsets net.listed
 

@@ -2,7 +2,7 @@
 ghost use Rattle.std.specs.Prelude.{◌≡◌, cond, ◌+◌, ◌<◌, ◌≤◌, length};
 ghost use Rattle.std.specs.Float.Ieee.{lt};
 ghost use Rattle.field.specs.Buffer.{get, put, load, store};
-ghost use Rattle.network.specs.Network.{rows};
+ghost use Rattle.network.specs.Network.{rows as number_of_rows};
 ghost use Rattle.system.specs.System.{pull_in, sees, departs, arrives, add_bearing, add_direction, assemble_row, assemble_rows, terms_by, anchor_of};
 ghost use Rattle.system.specs.Work.{term, term_place, matrix_at};
 ghost use Rattle.system.specs.inner.Formed.{always, sums_in, added};
@@ -14,7 +14,8 @@ use crate::{get_term, put_term};
 use field::{Vec3, clear};
 use network::links::Ends;
 
-// A bearing added to the term of camera c.
+// A bearing added to the term of camera c. (A function for each of the three changes: with the change as a closure, the contract would be a law over what
+// the closure gives, longer than the two lines that get and put.)
 fn see(work: &mut [f64], c: usize, e: f64, w: f64, mean: Vec3, offset: Vec3)
     requires { (c ≤ 4096) × (term_place (c + 1) ≤ length work.old) }
     ensures { work.new ≡ put term work.old (term_place c)
@@ -58,7 +59,7 @@ fn add_bearing(ends: &Ends<'_>, work: &mut [f64], r: usize, offset: Vec3)
 
 // Direction r, whose pull is `offset`, added to its source's term, and then to its target's.
 fn add_direction(ends: &Ends<'_>, work: &mut [f64], r: usize, offset: Vec3)
-    requires { (ends.now.shape.bearings ≤ r) × (r < rows ends.now.shape) × (matrix_at ends.now.shape ≤ length work.old) }
+    requires { (ends.now.shape.bearings ≤ r) × (r < number_of_rows ends.now.shape) × (matrix_at ends.now.shape ≤ length work.old) }
     ensures { work.new ≡ added ends.now.shape (always offset) (add_direction ends.now.ends r) work.old }
 {
     let e = row_weight(ends.shape(), work, r);
@@ -70,7 +71,7 @@ fn add_direction(ends: &Ends<'_>, work: &mut [f64], r: usize, offset: Vec3)
 
 // Row r, whose pull is `offset`.
 fn add_row(ends: &Ends<'_>, work: &mut [f64], r: usize, offset: Vec3)
-    requires { (r < rows ends.now.shape) × (matrix_at ends.now.shape ≤ length work.old) }
+    requires { (r < number_of_rows ends.now.shape) × (matrix_at ends.now.shape ≤ length work.old) }
     ensures { work.new ≡ added ends.now.shape (always offset) (assemble_row ends.now.shape ends.now.ends r) work.old }
 {
     if r < ends.shape().bearings {
@@ -81,29 +82,28 @@ fn add_row(ends: &Ends<'_>, work: &mut [f64], r: usize, offset: Vec3)
 }
 
 // What all rows add, in row order.
-fn assemble_rows(numbers: &Rows<'_>, ends: &Ends<'_>, work: &mut [f64])
-    requires same_shape { numbers.now.shape ≡ ends.now.shape }
-    requires s_in_bounds { matrix_at ends.now.shape ≤ length work.old }
-    ensures { work.new ≡ added ends.now.shape (pull_in numbers.now.rays numbers.now.weights numbers.now.scales)
-        (assemble_rows ends.now.shape ends.now.ends (rows ends.now.shape)) work.old }
+fn assemble_rows(rows: &Rows<'_>, work: &mut [f64])
+    requires { matrix_at rows.now.links.shape ≤ length work.old }
+    ensures { work.new ≡ added rows.now.links.shape (pull_in rows.now.rays rows.now.weights rows.now.scales)
+        (assemble_rows rows.now.links.shape rows.now.links.ends (number_of_rows rows.now.links.shape)) work.old }
 {
-    let s = ends.shape();
+    let s = rows.shape();
+    let ends = rows.links().ends();
     for r in 0..s.bearings + s.directions {
-        let offset = numbers.pull(r);
+        let offset = rows.pull(r);
         add_row(ends, work, r, offset);
     }
 }
 
 // The terms of all cameras: the Rust's `assemble_camera_system`.
-pub(crate) fn assemble(numbers: &Rows<'_>, ends: &Ends<'_>, work: &mut [f64])
-    requires same_shape { numbers.now.shape ≡ ends.now.shape }
-    requires s_in_bounds { matrix_at ends.now.shape ≤ length work.old }
+pub(crate) fn assemble(rows: &Rows<'_>, work: &mut [f64])
+    requires { matrix_at rows.now.links.shape ≤ length work.old }
     ensures { work.new ≡ store term work.old 0
-        (terms_by ends.now.shape ends.now.ends
-        (sums_in ends.now.shape (pull_in numbers.now.rays numbers.now.weights numbers.now.scales) work.old)) }
+        (terms_by rows.now.links.shape rows.now.links.ends
+        (sums_in rows.now.links.shape (pull_in rows.now.rays rows.now.weights rows.now.scales) work.old)) }
 {
-    clear(work, term_at(ends.shape().cameras), 0.0);
-    assemble_rows(numbers, ends, work);
+    clear(work, term_at(rows.shape().cameras), 0.0);
+    assemble_rows(rows, work);
 }
 
 // The best camera so far, and its degree.

@@ -9,16 +9,12 @@ pub mod work;
 
 ghost use Rattle.std.specs.Prelude.{◌≡◌, ◌+◌, ◌*◌, ◌<◌, ◌≤◌, length};
 ghost use Rattle.field.specs.Buffer.{get, put};
-ghost use Rattle.network.specs.Network.{links};
-ghost use Rattle.network.specs.inner.Sound.{LinksSound};
-ghost use Rattle.system.specs.System.{effective_in, pull_in, sums_from, sees as seen, joins as joined, departs as departed, arrives as arrived};
+ghost use Rattle.system.specs.System.{effective_in, pull_in, row_sums, sees as seen, joins as joined, departs as departed, arrives as arrived};
 ghost use Rattle.system.specs.Work.{term, term_place, matrix_at};
-ghost use Rattle.system.specs.inner.Formed.{RowsThere, Formed};
+ghost use Rattle.system.specs.inner.Formed.{Formed};
 
 use assembly::{assemble, pick_anchor};
 use field::{Vec3, get3, put3};
-use network::Shape;
-use network::links::Links;
 use numbers::Rows;
 use points::{fill_effective, sum_points};
 use work::term_at;
@@ -47,7 +43,7 @@ impl CameraTerm {
                 count: self.count,
             };
         }
-        let right = old.add(mean.mul(e).sub(pull));
+        let right = old + (mean * e - pull);
         let count = self.count + 1.0;
         CameraTerm {
             diagonal: self.diagonal + e * (1.0 - e / w),
@@ -73,7 +69,7 @@ impl CameraTerm {
     pub(crate) fn departs(self, e: f64, pull: Vec3) -> CameraTerm
         ensures { result ≡ departed e pull self }
     {
-        let right = self.right.sub(pull);
+        let right = self.right - pull;
         self.joins(e, right)
     }
 
@@ -81,26 +77,9 @@ impl CameraTerm {
     pub(crate) fn arrives(self, e: f64, pull: Vec3) -> CameraTerm
         ensures { result ≡ arrived e pull self }
     {
-        let right = self.right.add(pull);
+        let right = self.right + pull;
         self.joins(e, right)
     }
-}
-
-// The effective weight of row r: (weight × scale) × scale.
-pub fn effective(weights: &[f64], scales: &[f64], r: usize) -> f64
-    requires { (r < length weights.now) × (r < length scales.now) }
-    ensures { result ≡ effective_in weights.now scales.now r }
-{
-    let scale = scales[r];
-    (weights[r] * scale) * scale
-}
-
-// The pull of row r: ray × (weight × scale).
-pub fn pull(rays: &[f64], weights: &[f64], scales: &[f64], r: usize) -> Vec3
-    requires { (r < length weights.now) × (r < length scales.now) × (3 * r + 3 ≤ length rays.now) }
-    ensures { result ≡ pull_in rays.now weights.now scales.now r }
-{
-    get3(rays, 3 * r).mul(weights[r] * scales[r])
 }
 
 // The term of camera c.
@@ -130,28 +109,30 @@ pub(crate) fn put_term(work: &mut [f64], c: usize, t: CameraTerm)
     work[p + 5] = t.count;
 }
 
-// Forms the system in the work buffer, and returns the anchor: `update_point_statistics`, `assemble_camera_system`, `pick_anchor`.
-pub fn form(
-    s: Shape,
-    ends: &[usize],
-    rays: &[f64],
-    weights: &[f64],
-    scales: &[f64],
-    offsets: &[usize],
-    listed: &[usize],
-    work: &mut [f64],
-) -> usize
-    requires links_sound { LinksSound (links s ends.now offsets.now listed.now) }
-    requires rows_there { RowsThere s rays.now weights.now scales.now }
-    requires s_in_bounds { matrix_at s ≤ length work.old }
-    ensures { Formed s ends.now
-        (sums_from rays.now weights.now scales.now offsets.now listed.now)
-        work.old work.new result }
+// The effective weight of row r: (weight × scale) × scale.
+pub fn effective(weights: &[f64], scales: &[f64], r: usize) -> f64
+    requires { (r < length weights.now) × (r < length scales.now) }
+    ensures { result ≡ effective_in weights.now scales.now r }
 {
-    let links = Links::new(s, ends, offsets, listed);
-    let rows = Rows::new(s, rays, weights, scales);
-    fill_effective(&rows, work);
-    sum_points(&rows, &links, work);
-    assemble(&rows, links.ends(), work);
-    pick_anchor(work, s.cameras)
+    let scale = scales[r];
+    (weights[r] * scale) * scale
+}
+
+// The pull of row r: ray × (weight × scale).
+pub fn pull(rays: &[f64], weights: &[f64], scales: &[f64], r: usize) -> Vec3
+    requires { (r < length weights.now) × (r < length scales.now) × (3 * r + 3 ≤ length rays.now) }
+    ensures { result ≡ pull_in rays.now weights.now scales.now r }
+{
+    get3(rays, 3 * r) * (weights[r] * scales[r])
+}
+
+// Forms the system in the work buffer, and returns the anchor: `update_point_statistics`, `assemble_camera_system`, `pick_anchor`.
+pub fn form(rows: &Rows<'_>, work: &mut [f64]) -> usize
+    requires { matrix_at rows.now.links.shape ≤ length work.old }
+    ensures { Formed rows.now.links.shape rows.now.links.ends (row_sums rows.now) work.old work.new result }
+{
+    fill_effective(rows, work);
+    sum_points(rows, work);
+    assemble(rows, work);
+    pick_anchor(work, rows.links().shape().cameras)
 }

@@ -1,10 +1,11 @@
 // Effective weights, point weights and mean offsets.
+// (The sums over a list are loops of their own, and each read of a list tells its range: operator/lib.rt and network/links.rt say why.)
 ghost use Rattle.std.specs.Prelude.{◌≡◌, ◌+◌, ◌*◌, ◌<◌, ◌≤◌, length, set};
 ghost use Rattle.field.specs.Count.{field};
 ghost use Rattle.field.specs.Buffer.{put, store, number, vector};
-ghost use Rattle.network.specs.Network.{rows};
+ghost use Rattle.network.specs.Network.{rows as number_of_rows};
 ghost use Rattle.network.specs.inner.Sound.{ShapeSound, ListedSound};
-ghost use Rattle.system.specs.System.{effective_in, pull_in, weight_sum, pull_sum, mean_of, sums_from};
+ghost use Rattle.system.specs.System.{effective_in, pull_in, weight_sum, pull_sum, mean_of, row_sums};
 ghost use Rattle.system.specs.Work.{weights_at, means_at, effective_at, matrix_at};
 ghost use Rattle.system.specs.inner.Formed.{point_stored, summed};
 
@@ -12,27 +13,27 @@ use crate::effective;
 use crate::numbers::Rows;
 use crate::work::{effective_at, means_at, weights_at};
 use field::{Vec3, put3, zero};
-use network::links::{Links, listed_at};
+use network::links::listed_at;
 use network::{Shape, Span};
 
 // The effective weights of all rows, in their segment (formed at the end of the Rust's `update_robust_weights`).
-pub(crate) fn fill_effective(numbers: &Rows<'_>, work: &mut [f64])
-    requires shape_sound { ShapeSound numbers.now.shape }
-    requires s_in_bounds { matrix_at numbers.now.shape ≤ length work.old }
-    ensures { work.new ≡ store number work.old (effective_at numbers.now.shape)
-        (field (rows numbers.now.shape) (effective_in numbers.now.weights numbers.now.scales)) }
+pub(crate) fn fill_effective(rows: &Rows<'_>, work: &mut [f64])
+    requires { matrix_at rows.now.links.shape ≤ length work.old }
+    ensures { work.new ≡ store number work.old (effective_at rows.now.links.shape)
+        (field (number_of_rows rows.now.links.shape) (effective_in rows.now.weights rows.now.scales)) }
 {
-    let s = numbers.shape();
+    let s = rows.shape();
     let into = effective_at(s);
-    for r in 0..s.bearings + s.directions {
-        work[into + r] = numbers.effective(r);
+    let count = s.bearings + s.directions;
+    for (r, weight) in work[into..into + count].iter_mut().enumerate() {
+        *weight = rows.effective(r);
     }
 }
 
 // W: the sum of the effective weights over the rows at the places k of the lists, in list order.
 pub fn point_weight(s: Shape, weights: &[f64], scales: &[f64], listed: &[usize], k: Span) -> f64
     requires listed_sound { ListedSound s.bearings listed.now }
-    requires s_in_bounds { (rows s ≤ length weights.now) × (rows s ≤ length scales.now) }
+    requires s_in_bounds { (number_of_rows s ≤ length weights.now) × (number_of_rows s ≤ length scales.now) }
     requires size_bound { k.first + k.size ≤ s.bearings }
     ensures { result ≡ weight_sum (effective_in weights.now scales.now) listed.now k }
 {
@@ -52,20 +53,19 @@ struct ListSums {
 }
 
 // Both sums over the rows at the places k of the lists, in one pass.
-fn list_sums(numbers: &Rows<'_>, links: &Links<'_>, k: Span) -> ListSums
-    requires shape_sound { ShapeSound links.now.shape }
-    requires same_shape { numbers.now.shape ≡ links.now.shape }
-    requires size_bound { k.first + k.size ≤ links.now.shape.bearings }
-    ensures weight_value { result.weight ≡ weight_sum (effective_in numbers.now.weights numbers.now.scales) links.now.listed k }
-    ensures pull_value { result.pull ≡ pull_sum (pull_in numbers.now.rays numbers.now.weights numbers.now.scales)
-        links.now.listed k }
+fn list_sums(rows: &Rows<'_>, k: Span) -> ListSums
+    requires { k.first + k.size ≤ rows.now.links.shape.bearings }
+    ensures weight_value { result.weight ≡ weight_sum (effective_in rows.now.weights rows.now.scales) rows.now.links.listed k }
+    ensures pull_value { result.pull ≡ pull_sum (pull_in rows.now.rays rows.now.weights rows.now.scales)
+        rows.now.links.listed k }
 {
+    let links = rows.links();
     let mut weight = 0.0;
     let mut sum = zero();
     for i in 0..k.size {
         let r = links.listed(k.first + i);
-        weight += numbers.effective(r);
-        sum = sum.add(numbers.pull(r));
+        weight += rows.effective(r);
+        sum = sum + rows.pull(r);
     }
     ListSums {
         weight: weight,
@@ -77,7 +77,7 @@ fn list_sums(numbers: &Rows<'_>, links: &Links<'_>, k: Span) -> ListSums
 fn mean_offset(w: f64, sum: Vec3) -> Vec3
     ensures { result ≡ mean_of w sum }
 {
-    if w > 1e-12 { sum.div(w) } else { zero() }
+    if w > 1e-12 { sum / w } else { zero() }
 }
 
 // The sums of point p, into their places.
@@ -99,15 +99,12 @@ struct PointSums {
 }
 
 // The sums of point p.
-fn sum_point(numbers: &Rows<'_>, links: &Links<'_>, p: usize) -> PointSums
-    requires shape_sound { ShapeSound links.now.shape }
-    requires same_shape { numbers.now.shape ≡ links.now.shape }
-    requires p_lt_points { p < links.now.shape.points }
-    ensures { let S = sums_from numbers.now.rays numbers.now.weights numbers.now.scales
-        links.now.offsets links.now.listed in
+fn sum_point(rows: &Rows<'_>, p: usize) -> PointSums
+    requires { p < rows.now.links.shape.points }
+    ensures { let S = row_sums rows.now in
         result ≡ record { weight = S.weights.point p; mean = S.mean p } }
 {
-    let t = list_sums(numbers, links, links.span(p));
+    let t = list_sums(rows, rows.links().span(p));
     PointSums {
         weight: t.weight,
         mean: mean_offset(t.weight, t.pull),
@@ -115,29 +112,21 @@ fn sum_point(numbers: &Rows<'_>, links: &Links<'_>, p: usize) -> PointSums
 }
 
 // The sums of point p, stored.
-fn store_point(numbers: &Rows<'_>, links: &Links<'_>, work: &mut [f64], p: usize)
-    requires same_shape { numbers.now.shape ≡ links.now.shape }
-    requires p_lt_points { (p < links.now.shape.points) × (matrix_at links.now.shape ≤ length work.old) }
-    ensures { work.new ≡ point_stored links.now.shape
-        (sums_from numbers.now.rays numbers.now.weights numbers.now.scales
-        links.now.offsets links.now.listed)
-        p work.old }
+fn store_point(rows: &Rows<'_>, work: &mut [f64], p: usize)
+    requires { (p < rows.now.links.shape.points) × (matrix_at rows.now.links.shape ≤ length work.old) }
+    ensures { work.new ≡ point_stored rows.now.links.shape (row_sums rows.now) p work.old }
 {
-    let s = links.shape();
-    let t = sum_point(numbers, links, p);
+    let s = rows.shape();
+    let t = sum_point(rows, p);
     put_sums(s, work, p, t);
 }
 
 // The weights and the mean offsets of all points: the Rust's `update_point_statistics`.
-pub(crate) fn sum_points(numbers: &Rows<'_>, links: &Links<'_>, work: &mut [f64])
-    requires same_shape { numbers.now.shape ≡ links.now.shape }
-    requires s_in_bounds { matrix_at links.now.shape ≤ length work.old }
-    ensures { work.new ≡ summed links.now.shape
-        (sums_from numbers.now.rays numbers.now.weights numbers.now.scales
-        links.now.offsets links.now.listed)
-        work.old links.now.shape.points }
+pub(crate) fn sum_points(rows: &Rows<'_>, work: &mut [f64])
+    requires { matrix_at rows.now.links.shape ≤ length work.old }
+    ensures { work.new ≡ summed rows.now.links.shape (row_sums rows.now) work.old rows.now.links.shape.points }
 {
-    for p in 0..links.shape().points {
-        store_point(numbers, links, work, p);
+    for p in 0..rows.shape().points {
+        store_point(rows, work, p);
     }
 }

@@ -1,4 +1,5 @@
 // What is read of the work buffer once the sums stand there.
+// The shape and the buffer go side by side: the callers write the buffer between two reads, so a struct of both would be made anew after each write.
 ghost use Rattle.std.specs.Prelude.{◌≡◌, ◌+◌, ◌*◌, ◌<◌, ◌≤◌, length};
 ghost use Rattle.field.specs.Buffer.{get, load, vector};
 ghost use Rattle.network.specs.Network.{rows};

@@ -1,4 +1,7 @@
 // Where the work buffer's segments begin, and how long it must be (specs/Work).
+// The buffer goes as a slice: were its `&mut` in a struct, each function that writes it would promise that it stays the same one (`ghost_name`), in
+// place of its length. The route goes as a number, since 8 is tested after 1 and 2 (network/route.rt).
+// Each segment has its own function, as it has its own definition in specs/Work: from an enum of them a contract would name both, the enum and its place.
 ghost use Rattle.std.specs.Prelude.{◌≡◌, ◌≤◌};
 ghost use Rattle.network.specs.inner.Sound.{ShapeSound};
 ghost use Rattle.system.specs.Work.{term_place, positions_at, right_at, residual_at, preconditioned_at, search_at, applied_at};

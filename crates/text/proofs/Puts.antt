@@ -1,56 +1,50 @@
--- Laws of `Put`: texts put one after another, and a buffer without room. Assumes nothing.
-use mathlib.Core.Path.{◌≡◌, refl, sym, ap, subst, ◌∙◌}
-use mathlib.Core.List.{List, [], ◌∷◌, ◌++◌}
+-- Laws of `Wrote`: texts written one after another, and the test for room. Assumes nothing.
+use mathlib.Core.Path.{◌≡◌, refl, sym, ap, ◌∙◌}
+use mathlib.Core.List.{List, [], ◌++◌}
 use Prim.Native.Nat.{ℕ, ◌+◌, ◌-◌, ◌*◌, ◌/◌, ◌≤◌, ◌<◌}
 use native.Mathlib.Nat.{add-zero}
 use native.Mathlib.Omega.{arith}
 use mathlib.Core.Bool.{Bool, true, false}
 use lib.Dec.{leb}
 use borrow.Author.Tests.{le-leb, lt-leb, leb-true, leb-false}
-use lib.ListN.{length, set, length-append}
+use lib.ListN.{length, length-append}
 use lib.Seq.{drop-drop}
 use Rattle.field.specs.Buffer.{write}
-use Rattle.field.proofs.Buffers.{write-append, write-split, set-write}
+use Rattle.field.proofs.Buffers.{write-append, write-split}
 use borrow.Rule.Slice.PartMut.{put_mid}
-use Rattle.text.specs.Lent.{Written, Put}
+use Rattle.text.specs.declared.Writer.{Writer}
+use Rattle.text.specs.inner.Steps.{Wrote}
 
--- nothing put
-pub put-none : (l : List ℕ) (p k : ℕ) → Put l l p [] k p
+-- nothing written
+pub wrote-none : (v : Writer) (k : ℕ) → Wrote v v [] k
 unfolding write
-put-none l p k = record { written = record { bytes = refl; next = sym (add-zero p) }; within = omega arith }
-
--- a text put after another
-written_then : {l m n : List ℕ} {p q r : ℕ} {xs ys : List ℕ} → Written l m p xs q → Written m n q ys r → Written l n p (xs ++ ys) r
-written_then {l} {m} {n} {p} {q} {r} {xs} {ys} a b =
-    record {
-      bytes = rw (b.bytes, a.bytes, a.next) (write-append l p xs ys);
-      next = rw length-append (omega (arith, a.next, b.next));
-    }
+wrote-none v k = record { same = refl; long = refl; bytes = refl; next = sym (add-zero v.at); within = omega arith }
 
 -- two texts, and three
-pub put_two : {l l₁ l₂ : List ℕ} {p p₁ p₂ k₁ k₂ k : ℕ} {a b : List ℕ} →
-    Put l l₁ p a k₁ p₁ → Put l₁ l₂ p₁ b k₂ p₂ → k₁ + k₂ ≡ k → Put l l₂ p (a ++ b) k p₂
-put_two x y h = record { written = written_then x.written y.written; within = omega (arith, x.within, y.within) }
+pub wrote_two : {u v w : Writer} {j k n : ℕ} {a b : List ℕ} → Wrote u v a j → Wrote v w b k → j + k ≡ n → Wrote u w (a ++ b) n
+wrote_two {u} {v} {w} {j} {k} {n} {a} {b} x y h =
+    record {
+      same = y.same ∙ x.same;
+      long = y.long ∙ x.long;
+      bytes = rw (y.bytes, x.bytes, x.next) (write-append u.out.now u.at a b);
+      next = rw length-append (omega (arith, x.next, y.next));
+      within = omega (arith, x.within, y.within);
+    }
 
-pub put_three : {l l₁ l₂ l₃ : List ℕ} {p p₁ p₂ p₃ k₁ k₂ k₃ k : ℕ} {a b c : List ℕ} →
-    Put l l₁ p a k₁ p₁ → Put l₁ l₂ p₁ b k₂ p₂ → Put l₂ l₃ p₂ c k₃ p₃ → k₁ + k₂ + k₃ ≡ k → Put l l₃ p (a ++ b ++ c) k p₃
-put_three x y z h = put_two (put_two x y refl) z h
-
--- a byte stored
-pub put_one : (l : List ℕ) (p : ℕ) (x : ℕ) → Put l (set l p x) p (x ∷ []) 1 (p + 1)
-put_one l p x = record { written = record { bytes = set-write l p x; next = refl }; within = omega arith }
+pub wrote_three : {t u v w : Writer} {i j k n : ℕ} {a b c : List ℕ} →
+    Wrote t u a i → Wrote u v b j → Wrote v w c k → i + j + k ≡ n → Wrote t w (a ++ b ++ c) n
+wrote_three x y z h = wrote_two (wrote_two x y refl) z h
 
 -- the same under other names for the text and its bound
-pub put_as : {l m : List ℕ} {p r j k : ℕ} {xs ys : List ℕ} → Put l m p xs j r → xs ≡ ys → length ys ≤ k → Put l m p ys k r
-put_as {l} {m} {p} {r} {j} {k} {xs} {ys} a e h =
-    let n : length xs ≡ length ys = ap length e in
-    record { written = subst (λ (t : List ℕ). Written l m p t r) e a.written; within = omega (arith, a.written.next) }
+pub wrote_as : {v w : Writer} {j k : ℕ} {xs ys : List ℕ} → Wrote v w xs j → xs ≡ ys → length ys ≤ k → Wrote v w ys k
+wrote_as a e h =
+    record { same = a.same; long = a.long; bytes = rw e at a.bytes; next = rw e at a.next; within = omega (arith, a.next, ap length e) }
 
 -- a copy of s, as a part of the buffer that came back as ys
-pub copied : (l ys s : List ℕ) (p : ℕ) → ys ≡ s → p + length s ≤ length l → Put l (put_mid p (p + length s - p) l ys) p s (length s) (p + length s)
+pub copied : (l ys s : List ℕ) (p : ℕ) → ys ≡ s → p + length s ≤ length l → put_mid p (p + length s - p) l ys ≡ write l p s
 copied l ys s p e h =
     let n : p + length s - p ≡ length s = omega arith in
-    record { written = record { bytes = rw (e, n, drop-drop) (sym (write-split l p s h)); next = refl }; within = omega arith }
+    rw (e, n, drop-drop) (sym (write-split l p s h))
 
 -- the test for room, by a quotient that cannot wrap
 pub room_for : (v n : ℕ) → 256 ≤ n → leb v ((n - 256) / 74) ≡ leb (256 + 74 * v) n

@@ -6,7 +6,7 @@ use Rattle.cholesky.proofs.factor_columns.Given as goal
 
 abbrev pub invariant-loop-rows : goal.invariant-loop-rows
 invariant-loop-rows l =
-    (l.j ≤ l.rows) × (l.rows ≤ l.d) × (length l.a ≡ length l.initial.a) × (length l.p ≡ 1024) × Reached l.d l.initial.a l.a l.rows l.j
+    (l.j ≤ l.rows) × (l.rows ≤ l.d) × (length l.a ≡ length l.initial.a) × Reached l.d l.initial.a l.a l.rows l.j
 
 abbrev pub decreases-loop-rows : goal.decreases-loop-rows
 decreases-loop-rows l = l.d - l.j

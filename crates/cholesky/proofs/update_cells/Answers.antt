@@ -1,5 +1,7 @@
+use Prim.Native.Nat.{◌+◌, ◌<◌}
+use native.Mathlib.Omega.{arith}
 use Rattle.cholesky.proofs.Updates.{cells-done}
 use Rattle.cholesky.proofs.update_cells.Goals as goal
 
 pub returns : goal.returns
-returns c = search cells-done
+returns c = let h : c.args.c.now.from + c.args.t < c.args.c.now.size = omega arith in search cells-done

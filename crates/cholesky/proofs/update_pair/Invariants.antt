@@ -2,4 +2,4 @@ use Rattle.cholesky.specs.inner.Stages.{PairUpdated}
 use Rattle.cholesky.proofs.update_pair.Given as goal
 
 abbrev pub invariant-loop-t : goal.invariant-loop-t
-invariant-loop-t l = PairUpdated l.d l.initial.a l.a l.i l.from l.t l.t l.x l.y l.p
+invariant-loop-t l = PairUpdated l.c.size l.initial.a l.a l.i l.c.from l.t l.t l.x l.y l.c.packed.now

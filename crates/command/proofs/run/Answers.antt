@@ -1,5 +1,8 @@
-use Rattle.command.proofs.Outcomes.{run_long}
+use Rattle.command.proofs.Printing.{step-printed, step-refused}
 use Rattle.command.proofs.run.Goals as goal
 
-pub returns-then-bytes-gt16384 : goal.returns-then-bytes-gt16384
-returns-then-bytes-gt16384 c = search run_long
+pub returns-in-Err : goal.returns-in-Err
+returns-in-Err c = search step-refused
+
+pub returns-in-Ok : goal.returns-in-Ok
+returns-in-Ok c = search step-printed

@@ -5,12 +5,14 @@ use Rattle.field.specs.Count.{field}
 use Rattle.field.specs.Buffer.{part, write, put, load, vector}
 use Rattle.network.specs.declared.Shape.{Shape}
 use Rattle.network.specs.Network.{rows}
+use Rattle.network.specs.inner.Sound.{ShapeSound}
 use Rattle.system.specs.declared.CameraTerm.{CameraTerm}
 use Rattle.system.specs.Work.{positions_at, weights_at, effective_at, matrix_at, dense_right_at, work_end, term}
 use Rattle.system.specs.inner.Formed.{weights_in}
 use Rattle.cholesky.specs.declared.Breakdown.{Breakdown}
 use Rattle.cholesky.specs.Cholesky.{then, ended, factor, substitution}
 use Rattle.dense.specs.declared.rows.DenseRow.{DenseRow}
+use Rattle.dense.specs.declared.rows.DenseSystem.{DenseSystem}
 use Rattle.dense.specs.Matrix.{MatrixChange}
 use Rattle.dense.specs.Dense.{right_of, spread}
 
@@ -21,10 +23,13 @@ abbrev pub RowWithin : ℕ → Option DenseRow → Type 0
 RowWithin d None = Unit
 RowWithin d (Some p) = p.0 < d
 
--- d = n - 1, and a buffer of so many numbers has room for a matrix of d rows and its right side
-pub record DenseRoom (s : Shape) (d size : ℕ) : Type 0 where
-  pub dimension : d + 1 ≡ s.cameras
-  pub room : work_end s d ≤ size
+-- m is of the shape s and has n - 1 rows, and a buffer of so many numbers has room for its matrix and its right side
+pub record SystemRoom (s : Shape) (m : DenseSystem) (size : ℕ) : Type 0 where
+  pub shape : m.shape ≡ s
+  pub sound : ShapeSound s
+  pub anchor : m.anchor < s.cameras
+  pub dimension : m.size + 1 ≡ s.cameras
+  pub room : work_end s m.size ≤ size
 
 -- ---- the matrix and the right side
 

@@ -2,18 +2,20 @@ use Rattle.network.proofs.Verdicts.{given, test-at-passed}
 use Rattle.network.specs.declared.Cause.TheVariants.{Diagonal}
 use mathlib.Core.Path.{sym, ◌∙◌}
 use Rattle.iterative.proofs.Solving.{none-bad, solved-bad}
-use borrow.Author.Rules.{rules}
 use Rattle.iterative.proofs.solve_iterative.Goals as goal
 
 pub run-requires : goal.run-requires
-run-requires c = record {
-  s_in_bounds = search rules;
-  cameras_value = rw c.new-t.ensures (none-bad _ _ _ c.find_bad_diagonal.ensures (test-at-passed Diagonal _ (sym c.refused_at.ensures ∙ c.in_ok-refused_at.was)));
-}
+run-requires c =
+    let p = rw (c.frame.ensures.value, c.new-t.ensures) at c.find_bad_diagonal.ensures in
+    record {
+      s_in_bounds = rw c.new-t.ensures c.requires;
+      cameras_value = rw c.new-t.ensures (none-bad _ _ _ p (test-at-passed Diagonal _ (sym c.refused_at.ensures ∙ c.in_ok-refused_at.was)));
+    }
 
 pub returns-in_err-refused_at : goal.returns-in_err-refused_at
 returns-in_err-refused_at c =
-    rw (given c.from_residual.ensures.1) (solved-bad _ _ _ _ c.find_bad_diagonal.ensures c.refused_at.ensures c.in_err-refused_at.was)
+    let p = rw (c.frame.ensures.value, c.new-t.ensures) at c.find_bad_diagonal.ensures in
+    rw (given c.from_residual.ensures.1) (solved-bad _ _ _ _ p c.refused_at.ensures c.in_err-refused_at.was)
 
 pub returns : goal.returns
 returns c = rw c.new-t.ensures at c.run.ensures

@@ -21,10 +21,11 @@ use Rattle.iterative.specs.Method.{starts_active, step, stepped_field}
 use Rattle.iterative.specs.Opening.{Opened, Segment, start_segments}
 use Rattle.iterative.specs.Problem.{Problem, dot_step, field_dot, most_rounds, times}
 use Rattle.iterative.specs.declared.Active.{Active}
+use Rattle.iterative.specs.declared.Frame.{Frame}
 use Rattle.network.specs.declared.Refusal.{Refusal}
 use Rattle.iterative.specs.declared.Round.{Round}
-use Rattle.iterative.specs.declared.Step.{Step}
-use Rattle.iterative.specs.declared.Step.TheVariants.{Ended, Running}
+use Rattle.std.specs.declared.ops.ControlFlow.{ControlFlow}
+use Rattle.std.specs.declared.ops.ControlFlow.TheVariants.{Break, Continue}
 
 -- ---- components
 
@@ -51,6 +52,10 @@ pub record ReducedSystem : Type 0 where
 abbrev pub reduced_system : Links → ℕ → ReducedSystem
 reduced_system L a = record { links = L; anchor = a }
 
+-- its shape and its anchor
+abbrev pub frame_of : ReducedSystem → Frame
+frame_of t = record { shape = t.links.shape; anchor = t.anchor }
+
 -- ---- what stands in a buffer
 
 -- camera i's diagonal with the ridge
@@ -58,8 +63,10 @@ abbrev pub diagonal_in : List Float → ℕ → Float
 diagonal_in l i = add binary64 (get term l (term_place i)).diagonal ridge
 
 -- the square sums of the right side, and their bounds
-abbrev pub right_sums : Shape → ℕ → List Float → Vec3
-right_sums s a l = field_dot s.cameras a (load vector l (right_at s) s.cameras) (load vector l (right_at s) s.cameras)
+abbrev pub right_sums : Frame → List Float → Vec3
+right_sums f l =
+    let s = f.shape in
+    field_dot s.cameras f.anchor (load vector l (right_at s) s.cameras) (load vector l (right_at s) s.cameras)
 
 -- the system: its terms and its right side, with an operator
 abbrev pub problem_with : Shape → ℕ → List Float → (List Vec3 → List Vec3) → Problem
@@ -84,11 +91,15 @@ state_in s l r = record {
   round = r;
 }
 
+-- how a round ends
+abbrev pub Step : Type 0
+Step = ControlFlow Round Round
+
 -- a round's answer, with the fields as it leaves them
 abbrev pub run_in : Shape → List Float → Result Step Refusal → Run
 run_in s l (Err r) = failed r
-run_in s l (Ok (Running r)) = running (state_in s l r)
-run_in s l (Ok (Ended r)) = ended (state_in s l r)
+run_in s l (Ok (Continue r)) = running (state_in s l r)
+run_in s l (Ok (Break r)) = ended (state_in s l r)
 
 -- ---- what is kept
 
@@ -134,28 +145,31 @@ put_each [] i l = l
 put_each (g ∷ gs) i l = put_each gs i (put_at vector l (g.place + 3 * i) (g.entry i))
 
 -- these put in the start's segments, and their products added to the sums v and w
-pub record TurnOpened (s : Shape) (a i : ℕ) (v w : Vec3) (l l' : List Float) (v' w' : Vec3) : Type 0 where
-  pub put : l' ≡ put_each (start_segments s (right_in a l) (preconditioned_in a l)) i l
-  pub sums : v' ≡ cond (eqb i a) v (plus v (times (right_in a l i) (right_in a l i)))
-  pub old : w' ≡ cond (eqb i a) w (plus w (times (right_in a l i) (preconditioned_in a l i)))
+pub record TurnOpened (f : Frame) (i : ℕ) (v w : Vec3) (l l' : List Float) (v' w' : Vec3) : Type 0 where
+  pub put : l' ≡ put_each (start_segments f.shape (right_in f.anchor l) (preconditioned_in f.anchor l)) i l
+  pub sums : v' ≡ cond (eqb i f.anchor) v (plus v (times (right_in f.anchor l i) (right_in f.anchor l i)))
+  pub old : w' ≡ cond (eqb i f.anchor) w (plus w (times (right_in f.anchor l i) (preconditioned_in f.anchor l i)))
 
 -- ---- passes that fill a field and sum a dot: l is the buffer before, l' after, r the dot
 
 -- the field at `from` preconditioned, at `into`; its dot with what it was made of
-pub record Preconditioned (s : Shape) (a from into : ℕ) (l l' : List Float) (r : Vec3) : Type 0 where
-  pub field : l' ≡ store vector l into (preconditioned s.cameras a (diagonal_of (load term l 0 s.cameras)) (load vector l from s.cameras))
-  pub dot : r ≡ field_dot s.cameras a (load vector l from s.cameras)
-      (preconditioned s.cameras a (diagonal_of (load term l 0 s.cameras)) (load vector l from s.cameras))
+abbrev pub made_in : Frame → ℕ → List Float → List Vec3
+made_in f from l = let n = f.shape.cameras in preconditioned n f.anchor (diagonal_of (load term l 0 n)) (load vector l from n)
+
+pub record Preconditioned (f : Frame) (from into : ℕ) (l l' : List Float) (r : Vec3) : Type 0 where
+  pub field : l' ≡ store vector l into (made_in f from l)
+  pub dot : r ≡ field_dot f.shape.cameras f.anchor (load vector l from f.shape.cameras) (made_in f from l)
 
 -- the field at `into` stepped along the one at `along`; its dot with itself
-abbrev pub stepped_in : Shape → ℕ → (Float → Float → Float) → Active → Vec3 → ℕ → ℕ → List Float → List Vec3
-stepped_in s a op active alpha into along l = stepped_field s.cameras a op active alpha (load vector l into s.cameras)
-    (load vector l along s.cameras)
+abbrev pub stepped_in : Frame → (Float → Float → Float) → Active → Vec3 → ℕ → ℕ → List Float → List Vec3
+stepped_in f op active alpha into along l =
+    let n = f.shape.cameras in
+    stepped_field n f.anchor op active alpha (load vector l into n) (load vector l along n)
 
-pub record FieldStepped (s : Shape) (a : ℕ) (op : Float → Float → Float) (active : Active) (alpha : Vec3) (into along : ℕ) (l l' : List Float)
+pub record FieldStepped (f : Frame) (op : Float → Float → Float) (active : Active) (alpha : Vec3) (into along : ℕ) (l l' : List Float)
     (r : Vec3) : Type 0 where
-  pub field : l' ≡ store vector l into (stepped_in s a op active alpha into along l)
-  pub dot : r ≡ field_dot s.cameras a (stepped_in s a op active alpha into along l) (stepped_in s a op active alpha into along l)
+  pub field : l' ≡ store vector l into (stepped_in f op active alpha into along l)
+  pub dot : r ≡ field_dot f.shape.cameras f.anchor (stepped_in f op active alpha into along l) (stepped_in f op active alpha into along l)
 
 -- ---- what a round does to the buffer l, of which it makes l': the method's, whatever the operator is
 
@@ -165,22 +179,24 @@ pub record Ran (s : Shape) (x : (List Vec3 → List Vec3) → Run) (l l' : List 
   pub kept : SystemKept s l l'
 
 -- a new search vector
-abbrev pub redirected_by : Shape → ℕ → List Float → Round → (List Vec3 → List Vec3) → Run
-redirected_by s a l r op = redirect (problem_with s a l op) (state_in s l r)
+abbrev pub redirected_by : Frame → List Float → Round → (List Vec3 → List Vec3) → Run
+redirected_by f l r op = redirect (problem_with f.shape f.anchor l op) (state_in f.shape l r)
 
 -- on, where a component is active
-abbrev pub continued_by : Shape → ℕ → List Float → Round → (List Vec3 → List Vec3) → Run
-continued_by s a l r op = continued (problem_with s a l op) (any r.active) (state_in s l r)
+abbrev pub continued_by : Frame → List Float → Round → (List Vec3 → List Vec3) → Run
+continued_by f l r op = continued (problem_with f.shape f.anchor l op) (any r.active) (state_in f.shape l r)
 
 -- the round once the system has been applied to the search vector
-abbrev pub stepped_by : Shape → ℕ → List Float → Round → (List Vec3 → List Vec3) → Run
-stepped_by s a l r op = step (problem_with s a l op) (state_in s l r) (load vector l (applied_at s) s.cameras)
+abbrev pub stepped_by : Frame → List Float → Round → (List Vec3 → List Vec3) → Run
+stepped_by f l r op =
+    let s = f.shape in
+    step (problem_with s f.anchor l op) (state_in s l r) (load vector l (applied_at s) s.cameras)
 
 -- the step along the search vector
-pub record MovedAlong (s : Shape) (a : ℕ) (r : Round) (curvature : Vec3) (l l' : List Float) (t : Round) : Type 0 where
-  pub state : (op : List Vec3 → List Vec3) → state_in s l' t ≡ moved (problem_with s a l op) (state_in s l r)
-      (load vector l (applied_at s) s.cameras) curvature
-  pub kept : SystemKept s l l'
+pub record MovedAlong (f : Frame) (r : Round) (curvature : Vec3) (l l' : List Float) (t : Round) : Type 0 where
+  pub state : (op : List Vec3 → List Vec3) → state_in f.shape l' t ≡ moved (problem_with f.shape f.anchor l op) (state_in f.shape l r)
+      (load vector l (applied_at f.shape) f.shape.cameras) curvature
+  pub kept : SystemKept f.shape l l'
 
 -- a whole round of a problem
 pub record Rounded (s : Shape) (P : Problem) (r : Round) (l l' : List Float) (t : Result Step Refusal) : Type 0 where
@@ -202,8 +218,8 @@ abbrev pub begun : State → Run
 begun s = cond (any s.round.active) (running s) (ended s)
 
 -- the start is made: the pass over all cameras, whose sums are v and the first old products, the flags, and no round
-pub record Started (s : Shape) (a : ℕ) (l l' : List Float) (v : Vec3) (r : Round) : Type 0 where
-  pub opened : Opened s a s.cameras l l' v r.old
+pub record Started (f : Frame) (l l' : List Float) (v : Vec3) (r : Round) : Type 0 where
+  pub opened : Opened f.shape f.anchor f.shape.cameras l l' v r.old
   pub active : r.active ≡ starts_active (bound_of v) v
   pub count : r.count ≡ 0
 

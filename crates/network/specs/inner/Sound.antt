@@ -25,6 +25,12 @@ pub record ContentLengths (s : Shape) (es : List ℕ) (rs ws ss ps : List Float)
   pub ends : length es ≡ 2 * rows s
   pub domain : DomainLengths s rs ws ss ps
 
+-- 3: the slices that 6 reads
+pub record ListLengths (L : Links) : Type 0 where
+  pub ends : length L.ends ≡ 2 * rows L.shape
+  pub offsets : length L.offsets ≡ L.shape.points + 1
+  pub listed : length L.listed ≡ L.shape.bearings
+
 -- 3: every slice of the network
 pub record NetworkLengths (net : Network) : Type 0 where
   pub content : ContentLengths net.shape net.ends net.rays net.weights net.scales net.positions

@@ -1,7 +1,9 @@
 -- What the operator's functions require of the work buffer, and what they make of it.
-use Rattle.std.specs.Prelude.{◌≡◌, List, ℕ, ◌*◌, ◌+◌, ◌<◌, ◌≤◌, Float}
+use Rattle.std.specs.Prelude.{◌≡◌, List, ℕ, ◌*◌, ◌+◌, ◌<◌, ◌≤◌, Float, get_or}
+use Rattle.std.specs.Float.{nan}
 use Rattle.field.specs.Buffer.{get, load, store, vector}
-use Rattle.field.specs.Vec.{minus, plus, scale}
+use Rattle.field.specs.Count.{upto}
+use Rattle.field.specs.Vec.{minus, origin, plus, scale}
 use Rattle.field.specs.declared.Vec3.{Vec3}
 use Rattle.network.specs.Network.{Links, first_end}
 use Rattle.network.specs.inner.Sound.{ShapeSound}
@@ -41,9 +43,29 @@ pub record Seen (s : Shape) (ends : List ℕ) (l : List Float) (from r : ℕ) (t
 abbrev pub added : Sight → Vec3 → Vec3
 added t v = plus v (scale t.at t.weight)
 
+-- what stands for a sight past a list's end
+abbrev pub blind : Sight
+blind = record { camera = 0; weight = nan; at = record { x = nan; y = nan; z = nan } }
+
+-- sight i of a list
+abbrev pub sight_at : List Sight → ℕ → Sight
+sight_at ts i = get_or ts i blind
+
+-- those of n bearings, at the places of the point lists from k on
+pub record SeenFrom (s : Shape) (ends listed : List ℕ) (l : List Float) (from k n : ℕ) (ts : List Sight) : Type 0 where
+  pub each : (i : ℕ) → i < n → Seen s ends l from (get_or listed (k + i) 0) (sight_at ts i)
+
+-- the sum of the cameras of n sights, by weight
+unfoldable pub summed : List Sight → ℕ → Vec3
+summed ts n = upto (λ i v. added (sight_at ts i) v) n origin
+
 -- a field whose camera of a sight gains (camera - u) × weight, where the anchor is a
 abbrev pub pushed : ℕ → Vec3 → Sight → List Vec3 → List Vec3
 pushed a u t y = gains a t.camera (scale (minus t.at u) t.weight) y
+
+-- n of them, one after another
+unfoldable pub pushed_all : ℕ → Vec3 → List Sight → ℕ → List Vec3 → List Vec3
+pushed_all a u ts n y = upto (λ i z. pushed a u (sight_at ts i) z) n y
 
 -- the buffer with the field at `into` changed by the weights in it and the field at `from`
 unfoldable pub applied : Shape → ℕ → ℕ → Change → List Float → List Float

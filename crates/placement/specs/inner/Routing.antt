@@ -2,7 +2,7 @@
 use Rattle.std.specs.Prelude.{Err, Ok, Result}
 use Rattle.network.specs.declared.Refusal.{Refusal}
 use Rattle.placement.specs.declared.Report.{Report}
-use Rattle.std.specs.Prelude.{ℕ, ◌≤◌, ◌<◌, ◌≡◌, List, cond, false, eqb, drop, length, Float}
+use Rattle.std.specs.Prelude.{ℕ, ◌≤◌, ◌<◌, ◌≡◌, List, false, drop, length, Float}
 use Rattle.field.specs.declared.Vec3.{Vec3}
 use Rattle.field.specs.Buffer.{load}
 use Rattle.network.specs.declared.Shape.{Shape}
@@ -18,10 +18,17 @@ use Rattle.iterative.specs.Reduced.{problem_by}
 use Rattle.cholesky.specs.declared.Breakdown.{Breakdown}
 use Rattle.dense.specs.Dense.{dense_solution_by}
 use Rattle.placement.specs.declared.routes.Finish.{Finish}
-use Rattle.placement.specs.Routes.{Placement, failing, fall_back, placed, routed}
+use Rattle.placement.specs.declared.routes.Route.{Route}
+use Rattle.placement.specs.declared.routes.Route.TheVariants as route
+use Rattle.placement.specs.Routes.{Placement, failing, placed, routed}
 use Rattle.placement.specs.Solved.{answer_of, cameras_after, points_after}
 
 -- ---- a route, over the system that stands in the buffer
+
+abbrev pub route_number : Route → ℕ
+route_number route.Dense = 1
+route_number route.Iterative = 2
+route_number route.IterativeThenDense = 3
 
 -- a is a camera, 8 does not refuse, and the buffer has the length that the route needs
 pub record RouteReady (s : Shape) (a route limit size : ℕ) : Type 0 where
@@ -36,14 +43,10 @@ iterative_in L a l = solution (problem_by L (weights_in L.shape l) (load term l 
 abbrev pub dense_in : Links → ℕ → List Float → Result (List Vec3) Breakdown
 dense_in L a l = dense_solution_by L (weights_in L.shape l) (load term l 0 L.shape.cameras) a
 
--- after a refusal of the iterative part, on either of its routes: that refusal on route 2, what follows on route 3
-abbrev pub after_refusal : ℕ → ℕ → ℕ → Result (List Vec3) Breakdown → Refusal → Placement
-after_refusal d route limit y r = cond (eqb route 2) (failing r) (fall_back d limit y r)
-
 -- how a route ended, with the cameras that stand in the buffer
 abbrev pub ended_with : Result Finish Refusal → List Vec3 → Placement
 ended_with (Err r) cameras = failing r
-ended_with (Ok f) cameras = placed f.route f.rounds cameras
+ended_with (Ok f) cameras = placed (route_number f.route) f.rounds cameras
 
 -- The route that ends as x made l' of the buffer l, and ended as r. The first t numbers may have changed, but not the system.
 pub record Routed (s : Shape) (t : ℕ) (x : Placement) (l l' : List Float) (r : Result Finish Refusal) : Type 0 where
@@ -57,7 +60,7 @@ pub record Routed (s : Shape) (t : ℕ) (x : Placement) (l l' : List Float) (r :
 -- the answer, with an anchor and few
 abbrev pub reported : ℕ → ℕ → Result Finish Refusal → Result Report Refusal
 reported a few (Err r) = Err r
-reported a few (Ok f) = Ok (record { anchor = a; route = f.route; rounds = f.rounds; few = few })
+reported a few (Ok f) = Ok (record { anchor = a; route = route_number f.route; rounds = f.rounds; few = few })
 
 -- an answer, with the cameras that stand in the buffer
 abbrev pub outcome : Result Report Refusal → List Vec3 → Placement

@@ -6,7 +6,10 @@ pub loop-p-init : goal.loop-p-init
 loop-p-init c = search store-none
 
 pub loop-p-preserved : goal.loop-p-preserved
-loop-p-preserved c = let v = rw (c.new-links.ensures, c.new-numbers.ensures) at c.recover_point-v.ensures in search points-more
+loop-p-preserved c = search points-more
 
 pub returns : goal.returns
-returns c = search points-ended
+returns c =
+    let b = rw c.shape-p-end.ensures.value at c.loop-p.auto.p-end in
+    let e = rw c.shape-p-end.ensures.value at c.loop-p-test.false in
+    search points-ended

@@ -4,10 +4,9 @@ use Rattle.std.specs.Prelude.{Ok, Result}
 use Rattle.std.specs.Result.{result_and}
 use Rattle.network.specs.declared.Refusal.{Refusal}
 use Rattle.field.specs.declared.Vec3.{Vec3}
-use Rattle.network.specs.declared.Shape.{Shape}
 use Rattle.network.specs.Network.{Network}
 use Rattle.network.specs.inner.Sound.{NetworkSound}
-use Rattle.system.specs.System.{pull_in}
+use Rattle.system.specs.System.{RowNumbers, pull_in}
 use Rattle.system.specs.inner.Formed.{positions_in, weights_in}
 use Rattle.recover.specs.Recover.{sighting}
 use Rattle.recover.specs.Calls.{PlacedNetwork, placed_verdict, chosen}
@@ -30,5 +29,7 @@ unfoldable pub entered : PlacedNetwork → Result Sites Refusal
 entered i = result_and (placed_verdict i) (Ok (sites i.net (chosen i)))
 
 -- a row's sighting, by the cameras and the effective weights that the work buffer l holds
-abbrev pub sighting_in : Shape → List ℕ → List Float → List Float → List Float → List Float → ℕ → Vec3
-sighting_in s ends rays weights scales l = sighting (weights_in s l).row (pull_in rays weights scales) ends (positions_in s l)
+abbrev pub sighting_in : RowNumbers → List Float → ℕ → Vec3
+sighting_in R l =
+    let s = R.links.shape in
+    sighting (weights_in s l).row (pull_in R.rays R.weights R.scales) R.links.ends (positions_in s l)

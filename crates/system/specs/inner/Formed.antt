@@ -7,8 +7,9 @@ use Rattle.field.specs.Count.{field, count_below}
 use Rattle.field.specs.Buffer.{part, get, put, load, store, number, vector}
 use Rattle.network.specs.declared.Shape.{Shape}
 use Rattle.network.specs.Network.{rows}
+use Rattle.network.specs.inner.Sound.{LinksSound}
 use Rattle.system.specs.declared.CameraTerm.{CameraTerm}
-use Rattle.system.specs.System.{Weights, Sums, Addition, two, term_at, terms_by, anchor_of}
+use Rattle.system.specs.System.{RowNumbers, Weights, Sums, Addition, two, term_at, terms_by, anchor_of}
 use Rattle.system.specs.Work.{positions_at, weights_at, means_at, effective_at, matrix_at, term}
 
 -- ---- what is required
@@ -18,6 +19,11 @@ pub record RowsThere (s : Shape) (rs ws ss : List Float) : Type 0 where
   pub rays : 3 * rows s ≤ length rs
   pub weights : rows s ≤ length ws
   pub scales : rows s ≤ length ss
+
+-- and their links are sound
+pub record RowsSound (R : RowNumbers) : Type 0 where
+  pub links : LinksSound R.links
+  pub numbers : RowsThere R.links.shape R.rays R.weights R.scales
 
 -- ---- what stands in the buffer l
 

@@ -1,8 +1,18 @@
-use Rattle.text.proofs.Lines.{room-shown, put-no-room}
+use Rattle.std.proofs.Common.{refl, arith}
+use Rattle.text.specs.Text.{refused_text, ascii}
+use Rattle.text.proofs.Puts.{wrote_two}
+use Rattle.text.proofs.Lines.{room-shown, put-room, put-no-room}
 use Rattle.text.proofs.put_refused.Goals as goal
 
-pub put_refusal-requires : goal.put_refusal-requires
-put_refusal-requires c = search room-shown
+pub pair-requires : goal.pair-requires
+pair-requires c = omega (arith, room-shown 0 _ _ c.has_room.ensures c.if-has_room.true)
+
+pub byte-requires : goal.byte-requires
+byte-requires c = omega (arith, room-shown 0 _ _ c.has_room.ensures c.if-has_room.true)
+
+pub returns-then-has_room : goal.returns-then-has_room
+unfolding refused_text ascii
+returns-then-has_room c = search (put-room, wrote_two c.pair.ensures c.byte.ensures refl, arith)
 
 pub returns : goal.returns
 returns c = search put-no-room

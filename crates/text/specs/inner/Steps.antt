@@ -1,17 +1,22 @@
 -- What the steps of `put_placed` and `put_refused` promise each other. No entry point's contract cites it.
-use Rattle.std.specs.Prelude.{List, ◌++◌, ℕ, ◌+◌, ◌*◌, ◌/◌, length, Float}
+use Rattle.std.specs.Prelude.{◌≡◌, List, ◌++◌, ℕ, ◌+◌, ◌*◌, ◌/◌, ◌≤◌, length, Float}
+use Rattle.field.specs.Buffer.{write}
 use Rattle.network.specs.declared.Shape.{Shape}
 use Rattle.placement.specs.declared.Report.{Report}
-use Rattle.text.specs.Text.{named, newline, counts_line, parts_line, report_line, few_line}
-use Rattle.text.specs.Lent.{Put}
+use Rattle.text.specs.declared.Writer.{Writer}
+use Rattle.text.specs.Text.{counts_line, parts_line, report_line, few_line}
 
--- two labels, each with a number
-abbrev pub PutPair : (one : List ℕ) (x : ℕ) (two : List ℕ) (y : ℕ) → (before after : List ℕ) → (p r : ℕ) → Type 0
-PutPair one x two y before after p r = Put before after p (named one x ++ named two y) (length one + 20 + (length two + 20)) r
+-- the buffer takes k more bytes
+abbrev pub HasRoom : Writer → ℕ → Type 0
+HasRoom v k = v.at + k ≤ length v.out.now
 
--- a line of a label and a number
-abbrev pub PutNumberLine : (label : List ℕ) (x : ℕ) → (before after : List ℕ) → (p r : ℕ) → Type 0
-PutNumberLine label x before after p r = Put before after p (named label x ++ newline) (length label + 20 + 1) r
+-- w is the writer v, over the same buffer, after the text, which takes at most k bytes
+pub record Wrote (v w : Writer) (text : List ℕ) (k : ℕ) : Type 0 where
+  pub same : w.out.ghost_name ≡ v.out.ghost_name
+  pub long : length w.out.now ≡ length v.out.now
+  pub bytes : w.out.now ≡ write v.out.now v.at text
+  pub next : w.at ≡ v.at + length text
+  pub within : w.at ≤ v.at + k
 
 -- the line of the counts, and that of the report
 abbrev pub counts_of : Shape → List ℕ

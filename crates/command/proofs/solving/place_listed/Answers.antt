@@ -5,22 +5,21 @@ use borrow.Author.Rules.{rules}
 use Rattle.command.proofs.solving.place_listed.Goals as goal
 
 pub slice_bounds-place-end : goal.slice_bounds-place-end
-slice_bounds-place-end c = sym (length-take-le _ _ (omega arith))
+slice_bounds-place-end c = rw c.shape-s.ensures (sym (length-take-le _ _ (omega (arith, c.requires.content_sound.small))))
 
 pub slice_bounds-place-end-3 : goal.slice_bounds-place-end-3
-slice_bounds-place-end-3 c = sym (length-take-le _ _ (omega arith))
+slice_bounds-place-end-3 c = rw c.shape-s.ensures (sym (length-take-le _ _ (omega (arith, c.requires.content_sound.small))))
 
 pub slice_bounds-place-end-4 : goal.slice_bounds-place-end-4
-slice_bounds-place-end-4 c = sym (length-take-le _ _ (omega arith))
+slice_bounds-place-end-4 c = rw c.shape-s.ensures (sym (length-take-le _ _ (omega (arith, c.requires.content_sound.small))))
 
 pub place-requires : goal.place-requires
 place-requires c = record {
   buffers_sized = record {
-    small = search rules;
-    marks = length-take-le _ _ (omega arith);
+    marks = rw c.shape-s.ensures (length-take-le _ _ (omega (arith, c.requires.content_sound.small)));
     work = search rules;
-    cameras = length-take-le _ _ (omega arith);
-    points = length-take-le _ _ (omega arith);
+    cameras = rw c.shape-s.ensures (length-take-le _ _ (omega (arith, c.requires.content_sound.small)));
+    points = rw c.shape-s.ensures (length-take-le _ _ (omega (arith, c.requires.content_sound.small)));
   };
   content_sound = search rules;
   listed = search rules;

@@ -8,4 +8,5 @@ use Rattle.dense.proofs.cameras.fill_right.Given as goal
 
 abbrev pub invariant-loop-c : goal.invariant-loop-c
 invariant-loop-c l =
-    l.work ≡ store vector l.initial.work (dense_right_at l.s l.d) (field (rows_below l.anchor l.c) (right_of l.anchor (load term l.initial.work 0 l.s.cameras)))
+    let m = l.system in
+    l.work ≡ store vector l.initial.work (dense_right_at m.shape m.size) (field (rows_below m.anchor l.c) (right_of m.anchor (load term l.initial.work 0 m.shape.cameras)))

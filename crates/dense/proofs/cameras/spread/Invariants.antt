@@ -7,4 +7,5 @@ use Rattle.dense.proofs.cameras.spread.Given as goal
 
 abbrev pub invariant-loop-c : goal.invariant-loop-c
 invariant-loop-c l =
-    l.work ≡ store vector l.initial.work (positions_at l.s) (field l.c (camera_vector l.anchor (load vector l.initial.work (dense_right_at l.s l.d) l.d)))
+    let m = l.system in
+    l.work ≡ store vector l.initial.work (positions_at m.shape) (field l.c (camera_vector m.anchor (load vector l.initial.work (dense_right_at m.shape m.size) m.size)))

@@ -2,4 +2,4 @@ use Rattle.dense.proofs.Changes.{cleared}
 use Rattle.dense.proofs.matrix.clear_matrix.Goals as goal
 
 pub returns : goal.returns
-returns c = search cleared
+returns c = let zeros = c.fill.ensures.after (λ y h. h) in search cleared

@@ -5,4 +5,5 @@ use Rattle.dense.proofs.matrix.set_diagonals.Given as goal
 
 abbrev pub invariant-loop-c : goal.invariant-loop-c
 invariant-loop-c l =
-    l.work ≡ matrix_changed l.s l.d (times (diagonal_step l.anchor l.d) l.c) l.initial.work
+    let m = l.system in
+    l.work ≡ matrix_changed m.shape m.size (times (diagonal_step m.anchor m.size) l.c) l.initial.work

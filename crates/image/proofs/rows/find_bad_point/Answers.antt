@@ -1,14 +1,15 @@
-use Rattle.std.proofs.Common.{◌≡◌, ℕ, ◌+◌, ◌*◌, ◌∙◌, Bool, true, false, arith, rules, tests}
+use Rattle.std.proofs.Common.{◌≡◌, ◌+◌, ◌*◌, true, false, arith, rules, tests}
 use Rattle.std.proofs.lemmas.Iterator.{first_from_Range}
 use Rattle.field.proofs.Counting.{lowest-searched}
+use Rattle.network.specs.Network.{rows}
 use Rattle.network.specs.Refusals.{bad_vector}
 use Rattle.image.specs.Reading.{points_from}
-use Rattle.image.proofs.Domain.{points-apart}
 use Rattle.image.proofs.rows.find_bad_point.Goals as goal
 
 pub returns : goal.returns
 returns c =
-    let p : ℕ → Bool = λ i. bad_vector (points_from (c.args.at + 24 * i) 1 c.args.bytes.now) 0 in
-    lowest-searched p 0 _ (λ k h. absurd (omega arith))
-    (first_from_Range _ _ _ _ (λ i. p i ≡ true) (λ i. p i ≡ false) c.find.ensures.ran (λ x q k. search (rules, tests)) (λ x q k. (search rules, search (rules, tests))))
-    ∙ points-apart c.args.at c.args.m c.args.bytes.now
+    let s = c.args.image.now.shape in
+    let p = bad_vector (points_from (c.args.image.now.at + 48 * rows s) s.points c.args.image.now.bytes) in
+    rw c.shape-s.ensures at
+    (lowest-searched p 0 _ (λ k h. absurd (omega arith))
+    (first_from_Range _ _ _ _ (λ i. p i ≡ true) (λ i. p i ≡ false) c.find.ensures.ran (λ x q k. search (rules, tests)) (λ x q k. (search rules, search (rules, tests)))))

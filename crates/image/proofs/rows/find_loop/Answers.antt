@@ -8,6 +8,8 @@ use Rattle.image.proofs.rows.find_loop.Goals as goal
 
 pub returns : goal.returns
 returns c =
-    let p = loops c.args.s.bearings (ends_from c.args.at (rows c.args.s) c.args.bytes.now) in
-    lowest-searched p 0 _ (λ k h. absurd (omega arith))
-    (first_from_Range _ _ _ _ (λ i. p i ≡ true) (λ i. p i ≡ false) c.find.ensures.ran (λ x q k. search (rules, tests)) (λ x q k. (search rules, search (rules, tests))))
+    let s = c.args.image.now.shape in
+    let p = loops s.bearings (ends_from c.args.image.now.at (rows s) c.args.image.now.bytes) in
+    rw c.count.ensures.value at
+    (lowest-searched p 0 _ (λ k h. absurd (omega arith))
+    (first_from_Range _ _ _ _ (λ i. p i ≡ true) (λ i. p i ≡ false) c.find.ensures.ran (λ x q k. search (rules, tests)) (λ x q k. (search rules, search (rules, tests)))))

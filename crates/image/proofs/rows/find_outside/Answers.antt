@@ -13,8 +13,8 @@ returns-in_err-p c = rw c.from_residual.ensures (search (none_of_two, c.in_err-p
 
 pub overflow_add-result : goal.overflow_add-result
 unfolding content_from
-overflow_add-result c = search (place-fits, c.in_ok-p.was)
+overflow_add-result c = rw c.count.ensures.value (search (place-fits, c.in_ok-p.was))
 
 pub returns : goal.returns
 unfolding content_from
-returns c = search (second-of-two, c.in_ok-p.was)
+returns c = rw c.count.ensures.value (search (second-of-two, c.in_ok-p.was))

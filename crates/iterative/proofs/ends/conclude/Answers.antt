@@ -1,8 +1,5 @@
-use Rattle.iterative.proofs.Solving.{concluded-running, concluded-ended}
+use Rattle.iterative.proofs.Solving.{concluded}
 use Rattle.iterative.proofs.ends.conclude.Goals as goal
 
-pub returns-in-Running : goal.returns-in-Running
-returns-in-Running c = search concluded-running
-
-pub returns-in-Ended : goal.returns-in-Ended
-returns-in-Ended c = search concluded-ended
+pub returns : goal.returns
+returns c = concluded _ _ _ _ _ _ _ c.in-Continue.is c.judge.ensures

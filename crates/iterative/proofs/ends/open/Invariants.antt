@@ -3,4 +3,4 @@ use Rattle.iterative.proofs.ends.open.Given as goal
 
 abbrev pub invariant-loop-i : goal.invariant-loop-i
 invariant-loop-i l =
-    Opened l.s l.anchor l.i l.initial.work l.work l.sums.right l.sums.old
+    Opened l.frame.shape l.frame.anchor l.i l.initial.work l.work l.sums.right l.sums.old

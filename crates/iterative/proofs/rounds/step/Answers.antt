@@ -7,10 +7,10 @@ use Rattle.iterative.proofs.rounds.step.Goals as goal
 pub returns-in_err-refused_at : goal.returns-in_err-refused_at
 returns-in_err-refused_at c =
     rw (given c.from_residual.ensures.1)
-    (step-failed _ _ _ c.requires.fields_fit _ _ _ _ _ c.search_at.ensures c.applied_at.ensures c.field_dot-curvature.ensures c.find_bad_curvature.ensures
+    (step-failed _ _ c.requires.fields_fit _ _ _ _ _ c.search_at.ensures c.applied_at.ensures c.field_dot-curvature.ensures c.find_bad_curvature.ensures
     c.refused_at.ensures c.in_err-refused_at.was)
 
 pub returns : goal.returns
 returns c =
-    step-done _ _ _ c.requires.fields_fit _ _ _ _ _ c.search_at.ensures c.applied_at.ensures c.field_dot-curvature.ensures c.find_bad_curvature.ensures
+    step-done _ _ c.requires.fields_fit _ _ _ _ _ c.search_at.ensures c.applied_at.ensures c.field_dot-curvature.ensures c.find_bad_curvature.ensures
     _ _ _ _ (test-at-passed Curvature _ (sym c.refused_at.ensures ∙ c.in_ok-refused_at.was)) c.move_along-t.ensures c.go_on.ensures

@@ -1,6 +1,6 @@
 use native.Mathlib.Omega.{arith}
-use Rattle.layout.proofs.Numbers.{u16-is}
+use Rattle.layout.proofs.Numbers.{two-bytes}
 use Rattle.layout.proofs.bytes.u16_at.Goals as goal
 
 pub returns : goal.returns
-returns c = (search u16-is, omega arith)
+returns c = (omega (arith, two-bytes c.args.bytes.now c.args.p), omega arith)

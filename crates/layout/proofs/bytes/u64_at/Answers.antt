@@ -1,5 +1,6 @@
-use Rattle.layout.proofs.Numbers.{u64-is}
+use native.Mathlib.Omega.{arith}
+use Rattle.layout.proofs.Numbers.{eight-bytes}
 use Rattle.layout.proofs.bytes.u64_at.Goals as goal
 
 pub returns : goal.returns
-returns c = search u64-is
+returns c = omega (arith, eight-bytes c.args.bytes.now c.args.p)

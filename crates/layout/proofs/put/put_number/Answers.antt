@@ -1,12 +1,7 @@
-use Rattle.std.proofs.Common.{refl}
-use Rattle.layout.proofs.Stores.{number-none, higher-more, number_more, number-ended}
+use Rattle.layout.proofs.Stores.{number-stored}
 use Rattle.layout.proofs.put.put_number.Goals as goal
 
-pub loop-byte-init : goal.loop-byte-init
-loop-byte-init c = (refl, search number-none)
-
-pub loop-byte-preserved : goal.loop-byte-preserved
-loop-byte-preserved c = (search higher-more, search number_more)
-
 pub returns : goal.returns
-returns c = search number-ended
+returns c =
+    let e = c.copy_from_slice.ensures.after in
+    number-stored _ _ _ _ _ _ (c.requires.value_in_bounds) c.requires.out_in_bounds c.to_le_bytes.ensures e

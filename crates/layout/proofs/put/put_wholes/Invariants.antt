@@ -4,4 +4,4 @@ use Rattle.layout.specs.Bytes.{wholes}
 use Rattle.layout.proofs.put.put_wholes.Given as goal
 
 abbrev pub invariant-loop-i : goal.invariant-loop-i
-invariant-loop-i l = l.out ≡ write l.initial.out l.at (wholes l.list l.from l.i)
+invariant-loop-i l = l.out ≡ write l.initial.out l.at (wholes l.list 0 l.i)

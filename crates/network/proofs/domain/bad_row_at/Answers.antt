@@ -4,4 +4,4 @@ use Rattle.network.proofs.domain.bad_row_at.Goals as goal
 
 pub returns : goal.returns
 unfolding bad_row
-returns c = rw or_assoc cc
+returns c = rw (← c.c.view_is, or_assoc) cc

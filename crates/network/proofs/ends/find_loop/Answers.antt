@@ -12,6 +12,6 @@ no_loop b ends r h = rw (lt-leb b r h)
 
 pub returns : goal.returns
 returns c =
-    let p = loops c.args.b c.args.ends.now in
-    lowest-searched p c.args.b _ (no_loop c.args.b c.args.ends.now)
+    let p = loops c.args.s.bearings c.args.ends.now in
+    lowest-searched p c.args.s.bearings _ (no_loop c.args.s.bearings c.args.ends.now)
     (first_from_Range _ _ _ _ (λ i. p i ≡ true) (λ i. p i ≡ false) c.find.ensures.ran (λ x q k. search (rules, tests)) (λ x q k. (search rules, search (rules, tests))))

@@ -4,4 +4,4 @@ use Rattle.network.proofs.lengths.content_fits.Goals as goal
 
 pub returns : goal.returns
 unfolding content_fits
-returns c = rw and_assoc cc
+returns c = rw (← c.c.view_is, and_assoc) cc

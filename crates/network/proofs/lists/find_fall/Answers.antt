@@ -7,6 +7,6 @@ use Rattle.network.proofs.lists.find_fall.Goals as goal
 pub returns : goal.returns
 unfolding falls
 returns c =
-    let p = falls c.args.offsets.now in
-    lowest-searched p 0 _ (λ k h. absurd (omega arith))
-    (first_from_Range _ _ _ _ (λ i. p i ≡ true) (λ i. p i ≡ false) c.find.ensures.ran (λ x q k. search (rules, tests)) (λ x q k. (search rules, search (rules, tests))))
+    let p = falls c.args.lists.now.offsets in
+    rw (← c.shape.ensures.value) (lowest-searched p 0 _ (λ k h. absurd (omega arith))
+    (first_from_Range _ _ _ _ (λ i. p i ≡ true) (λ i. p i ≡ false) c.find.ensures.ran (λ x q k. search (rules, tests)) (λ x q k. (search rules, search (rules, tests)))))

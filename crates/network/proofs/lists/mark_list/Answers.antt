@@ -9,7 +9,7 @@ pub loop-i-init : goal.loop-i-init
 loop-i-init c = (omega arith, none-zero _, marks-at c.requires.marked refl (omega arith))
 
 pub mark_row-requires : goal.mark_row-requires
-mark_row-requires c = record { b_in_bounds = omega arith; k_in_bounds = omega arith; marked = c.loop-i.invariant.2 }
+mark_row-requires c = record { k_bound = omega arith; marked = c.loop-i.invariant.2 }
 
 pub returns-then-not-mark_row : goal.returns-then-not-mark_row
 returns-then-not-mark_row c = record { value = none-not _ _ _ c.mark_row.ensures.value (ap not c.if-not-mark_row.true) (omega arith); marked_after = marks-fail _ c.mark_row.ensures.marked_after }
@@ -23,5 +23,5 @@ loop-i-preserved c = (
 
 pub returns : goal.returns
 returns c =
-    let e : c.loop-i.i ≡ c.args.size = omega arith in
+    let e : c.loop-i.i ≡ c.args.k.size = omega arith in
     record { value = sym (rw e at c.loop-i.invariant.1); marked_after = marks-at c.loop-i.invariant.2 refl (omega arith) }

@@ -7,7 +7,8 @@ use Rattle.network.proofs.lists.mark_list.Given as goal
 
 abbrev pub invariant-loop-i : goal.invariant-loop-i
 invariant-loop-i l =
-    (l.i ≤ l.size) × (none (λ j. unfit l.b l.ends l.listed l.p (l.start + j)) l.i ≡ true) × Marked l.b l.listed true (l.start + l.i) l.marks
+    let b = l.lists.shape.bearings in
+    (l.i ≤ l.k.size) × (none (λ j. unfit b l.lists.ends l.lists.listed l.p (l.k.first + j)) l.i ≡ true) × Marked b l.lists.listed true (l.k.first + l.i) l.marks
 
 abbrev pub decreases-loop-i : goal.decreases-loop-i
-decreases-loop-i l = l.size - l.i
+decreases-loop-i l = l.k.size - l.i

@@ -8,7 +8,9 @@ use Rattle.network.proofs.lists.mark_points.Given as goal
 
 abbrev pub invariant-loop-p : goal.invariant-loop-p
 invariant-loop-p l =
-    (l.p ≤ l.m) × (none (has_unfit l.b l.ends l.offsets l.listed) l.p ≡ true) × Marked l.b l.listed true (get_or l.offsets l.p 0) l.marks
+    let b = l.lists.shape.bearings in
+    (l.p ≤ l.lists.shape.points) × (none (has_unfit b l.lists.ends l.lists.offsets l.lists.listed) l.p ≡ true)
+    × Marked b l.lists.listed true (get_or l.lists.offsets l.p 0) l.marks
 
 abbrev pub decreases-loop-p : goal.decreases-loop-p
-decreases-loop-p l = l.m - l.p
+decreases-loop-p l = l.lists.shape.points - l.p

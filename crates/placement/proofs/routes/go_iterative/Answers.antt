@@ -1,15 +1,12 @@
-use Rattle.placement.proofs.Routing.{iterative-failed, iterative-placed, matrix-room, ready-after}
-use borrow.Author.Rules.{rules}
+use Rattle.network.proofs.Verdicts.{given}
+use Rattle.placement.proofs.Routing.{iterative-failed, iterative-placed, matrix-room}
 use Rattle.placement.proofs.routes.go_iterative.Goals as goal
 
 pub solve_iterative-requires : goal.solve_iterative-requires
-solve_iterative-requires c = record { links_sound = search rules; s_in_bounds = search matrix-room }
+solve_iterative-requires c = search matrix-room
 
-pub fall_back-requires : goal.fall_back-requires
-fall_back-requires c = record { links_sound = search rules; route_ready = search ready-after }
+pub returns-in_err-rounds : goal.returns-in_err-rounds
+returns-in_err-rounds c = rw (given c.from_residual.ensures.1) (search (iterative-failed, c.in_err-rounds.was))
 
-pub returns-in-Ok : goal.returns-in-Ok
-returns-in-Ok c = search iterative-placed
-
-pub returns-in-Err : goal.returns-in-Err
-returns-in-Err c = search iterative-failed
+pub returns : goal.returns
+returns c = search (iterative-placed, c.in_ok-rounds.was)

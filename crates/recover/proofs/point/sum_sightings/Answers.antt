@@ -5,4 +5,4 @@ pub loop-i-init : goal.loop-i-init
 loop-i-init c = search pulls-none
 
 pub loop-i-preserved : goal.loop-i-preserved
-loop-i-preserved c = let s = rw c.ends-e.ensures at c.sight.ensures in search pulls-more
+loop-i-preserved c = let r = rw c.links-links.ensures.value at c.listed-r.ensures in search pulls-more

@@ -5,4 +5,4 @@ use Rattle.recover.specs.inner.Reads.{sighting_in}
 use Rattle.recover.proofs.point.sum_sightings.Given as goal
 
 abbrev pub invariant-loop-i : goal.invariant-loop-i
-invariant-loop-i l = l.sum ≡ pull_sum (sighting_in l.links.shape l.links.ends l.numbers.rays l.numbers.weights l.numbers.scales l.work) l.links.listed (places l.k.first l.i)
+invariant-loop-i l = l.sum ≡ pull_sum (sighting_in l.rows l.work) l.rows.links.listed (places l.k.first l.i)

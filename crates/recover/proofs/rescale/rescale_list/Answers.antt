@@ -6,4 +6,4 @@ pub loop-j-init : goal.loop-j-init
 loop-j-init c = search stored-none
 
 pub loop-j-preserved : goal.loop-j-preserved
-loop-j-preserved c = search list-more
+loop-j-preserved c = let r = rw (c.links-links.ensures.value, c.rows.ensures) at c.listed-r.ensures in search list-more

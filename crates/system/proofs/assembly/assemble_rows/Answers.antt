@@ -5,4 +5,4 @@ pub loop-r-init : goal.loop-r-init
 loop-r-init c = search rows_none
 
 pub loop-r-preserved : goal.loop-r-preserved
-loop-r-preserved c = search rows_more
+loop-r-preserved c = let a = rw (c.ends-ends.ensures, c.links.ensures.value) at c.add_row.ensures in search rows_more

@@ -4,4 +4,4 @@ use Rattle.system.specs.inner.Formed.{added}
 use Rattle.system.proofs.assembly.assemble_rows.Given as goal
 
 abbrev pub invariant-loop-r : goal.invariant-loop-r
-invariant-loop-r l = l.work ≡ added l.ends.shape (pull_in l.numbers.rays l.numbers.weights l.numbers.scales) (assemble_rows l.ends.shape l.ends.ends l.r) l.initial.work
+invariant-loop-r l = l.work ≡ added l.rows.links.shape (pull_in l.rows.rays l.rows.weights l.rows.scales) (assemble_rows l.rows.links.shape l.rows.links.ends l.r) l.initial.work

@@ -5,4 +5,4 @@ use Rattle.system.specs.System.{effective_in}
 use Rattle.system.proofs.points.fill_effective.Given as goal
 
 abbrev pub invariant-loop-r : goal.invariant-loop-r
-invariant-loop-r l = l.work ≡ store number l.initial.work l.into (field l.r (effective_in l.numbers.weights l.numbers.scales))
+invariant-loop-r l = l.weight-items ≡ store number l.initial.weight-items 0 (field l.r (effective_in l.rows.weights l.rows.scales))

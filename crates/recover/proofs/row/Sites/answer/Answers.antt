@@ -5,4 +5,4 @@ pub returns-then-keeps : goal.returns-then-keeps
 returns-then-keeps c = search answer-kept
 
 pub returns : goal.returns
-returns c = search answer-new
+returns c = let v = rw c.rows.ensures at c.ray.ensures in search answer-new

@@ -1,5 +1,0 @@
-use Rattle.command.proofs.Printing.{report-printed}
-use Rattle.command.proofs.output.accept.Goals as goal
-
-pub returns : goal.returns
-returns c = search report-printed

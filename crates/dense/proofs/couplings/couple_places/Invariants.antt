@@ -1,8 +1,0 @@
-use mathlib.Core.Path.{◌≡◌}
-use Rattle.dense.specs.Matrix.{times, place_step}
-use Rattle.dense.specs.inner.Held.{matrix_changed}
-use Rattle.dense.proofs.couplings.couple_places.Given as goal
-
-abbrev pub invariant-loop-i : goal.invariant-loop-i
-invariant-loop-i l =
-    l.work ≡ matrix_changed l.links.shape l.d (times (place_step l.anchor l.d l.links.ends l.links.listed l.w l.k) l.i) l.initial.work

@@ -1,7 +1,0 @@
-use mathlib.Core.Path.{refl}
-use Rattle.field.specs.Vec.{over}
-use Rattle.field.proofs.Vec3.div.Goals as goal
-
-pub returns : goal.returns
-unfolding over
-returns c = refl

@@ -1,7 +1,0 @@
-use mathlib.Core.Path.{refl}
-use Rattle.field.specs.Vec.{scale}
-use Rattle.field.proofs.Vec3.mul.Goals as goal
-
-pub returns : goal.returns
-unfolding scale
-returns c = refl

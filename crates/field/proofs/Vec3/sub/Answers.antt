@@ -1,7 +1,0 @@
-use mathlib.Core.Path.{refl}
-use Rattle.field.specs.Vec.{minus}
-use Rattle.field.proofs.Vec3.sub.Goals as goal
-
-pub returns : goal.returns
-unfolding minus
-returns c = refl

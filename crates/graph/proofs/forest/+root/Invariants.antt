@@ -1,5 +1,0 @@
--- `root` calls itself for the parent: no parent is above its node.
-use Rattle.graph.proofs.forest.+root.Given as goal
-
-abbrev pub decreases-root : goal.decreases-root
-decreases-root l = l.node

@@ -1,5 +1,0 @@
--- `put_hex` calls itself for one digit less.
-use Rattle.text.proofs.+put_hex.Given as goal
-
-abbrev pub decreases-put_hex : goal.decreases-put_hex
-decreases-put_hex l = l.k

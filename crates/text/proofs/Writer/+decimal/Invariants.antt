@@ -1,0 +1,5 @@
+-- `decimal` calls itself for the digits before the last.
+use Rattle.text.proofs.Writer.+decimal.Given as goal
+
+abbrev pub decreases-decimal : goal.decreases-decimal
+decreases-decimal l = l.x

@@ -1,0 +1,5 @@
+-- `hex` calls itself for one digit less.
+use Rattle.text.proofs.Writer.+hex.Given as goal
+
+abbrev pub decreases-hex : goal.decreases-hex
+decreases-hex l = l.k
