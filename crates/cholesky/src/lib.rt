@@ -24,7 +24,7 @@ pub enum Breakdown {
 }
 
 // Four neighbouring columns of a row: entries, or what is left of their remainders so far.
-// (An array of four would be read at fixed places too, since in `solve_four` each has a formula of its own: no line fewer.)
+// (No array of four: in `solve_four` each has a formula of its own, which reads better by names than by places.)
 #[derive(Clone, Copy)]
 struct Four {
     first: f64,

@@ -34,7 +34,7 @@ pub fn is_positive(x: f64) -> bool
     x - x < x
 }
 
-// This and `abs` are std's, told by the definitions of this kernel, which its contracts name.
+// This and `abs` are std's; their contracts say it by IEEE 754's words, as this crate's other tests do.
 pub fn is_nan(x: f64) -> bool
     ensures { result ≡ lib.Ieee.is_nan x }
 {

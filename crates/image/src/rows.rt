@@ -1,5 +1,6 @@
 // 4, 5 and 7 of the rows and points of an image, before any number is stored.
-// Not network's tests over a trait of rows: each of its reads would need a contract over the list that it stands for, and the reads would still be written here, as an impl; what is saved is four searches of a line.
+// Not network's tests over a trait of rows: each read of it, of bytes and of slices, would need a contract over the list that it stands for, more text than
+// the rules and searches that stand twice.
 ghost use Rattle.std.specs.Prelude.{◌≡◌, [], ◌∷◌, ◌+◌, ◌*◌, ◌≤◌, ◌<◌, length};
 ghost use Rattle.field.specs.Count.{lowest};
 ghost use Rattle.network.specs.Network.{rows};

@@ -8,7 +8,7 @@ use crate::answers::refused_if;
 use crate::lent::{Content, Network};
 use crate::{Cause, Refusal, Shape};
 
-// The ends and weights of the rows.
+// The ends and weights of the rows, one by one as in a graph call.
 pub fn ends_fit(s: Shape, ends: &[usize], weights: &[f64]) -> bool
     requires { ShapeSound s }
     ensures { result ≡ ends_fit (rows s) ends.now weights.now }

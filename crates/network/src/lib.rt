@@ -126,7 +126,7 @@ pub fn check_counts(s: Shape) -> Result<(), Refusal>
     )
 }
 
-// 4, 5 and the weight part of 7.
+// 4, 5 and the weight part of 7. (What a graph call is lent stays flat until it is tested: graph, src/checks.rt.)
 pub fn check_graph_rows(s: Shape, ends: &[usize], weights: &[f64]) -> Result<(), Refusal>
     requires shape_sound { ShapeSound s }
     requires ends_len { (length ends.now ≡ 2 * rows s) × (length weights.now ≡ rows s) }
@@ -136,7 +136,7 @@ pub fn check_graph_rows(s: Shape, ends: &[usize], weights: &[f64]) -> Result<(),
     refused_at(Cause::Domain, find_bad_weight(weights))
 }
 
-// 4 to 6. Once 6 has been tested, the marks are all zero. (The slices one by one: a `Network` would ask for three more than are read.)
+// 4 to 6. Once 6 has been tested, the marks are all zero. (The slices one by one: a `Network` would ask for numbers that are not read.)
 pub fn check_links(
     s: Shape,
     ends: &[usize],
@@ -156,7 +156,7 @@ pub fn check_links(
 }
 
 // 4 to 7 of the whole network. (With the cameras of the next function as an `Option`, each contract here and in domain.rt would match on it, and each body too.
-// Both ask what 1 to 3 have shown: a type for that would be made for this one call.)
+// Both ask what 1 to 3 have shown: a type for that would be made in each of the three calls, and opened here at once.)
 pub fn check_network_rows(net: &Network<'_>, marks: &mut [usize]) -> Result<(), Refusal>
     requires shape_sound { ShapeSound net.now.shape }
     requires network_lengths { NetworkLengths net.now }

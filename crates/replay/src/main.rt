@@ -162,7 +162,7 @@ impl<'a> Case<'a> {
     fn check_connected(&self, text: &mut Text) -> bool {
         let mut nodes = [7usize; 128];
         let net = &self.net;
-        // 1 or 0, or 2 of a refusal: a text that has 2 there agrees with one
+        // 1 or 0, or 2 of a refusal. Compared as numbers, so that what is printed of a text that has 2 there stays: it agrees.
         let answer = graph::is_connected(
             self.head.shape(),
             net.ends,
@@ -181,7 +181,7 @@ impl<'a> Case<'a> {
         let s = self.head.shape();
         let labels = &mut labels[..s.cameras];
         let net = &self.net;
-        // 0 of a refusal: a text that has 0 there agrees with one
+        // 0 of a refusal. Compared as numbers, as above.
         let count = graph::parts(s, net.ends, net.weights, &mut nodes, labels).unwrap_or(0);
         text.word(b"parts");
         let same = text.whole() == count;

@@ -43,7 +43,7 @@ pub fn read_all<R: Read>(from: &mut R, buf: &mut [u8]) -> io::Result<usize>
 }
 
 // Writes buf until all of it is taken, or a write fails or takes nothing, and counts the bytes that were taken: fewer than all only where that
-// happened. No `io::Result<()>`: it would promise less, since the count of the bytes taken is what is promised.
+// happened. No `io::Result<()>`: this cannot fail, and a count below the length says that a write did.
 pub fn write_all<W: Write>(to: &mut W, buf: &[u8]) -> usize
     ensures { result ≤ length buf.now }
 {

@@ -49,6 +49,7 @@ impl<'a> Rows<'a> {
         }
     }
 
+    // (No trait for the types' shapes: network, src/lent.rt.)
     pub fn shape(&self) -> Shape
         ensures value { result ≡ self.now.links.shape }
         ensures sound { ShapeSound result }

@@ -1,5 +1,6 @@
 // What is read of the work buffer once the sums stand there.
-// The shape and the buffer go side by side: the callers write the buffer between two reads, so a struct of both would be made anew after each write.
+// The shape and the buffer go side by side: where a caller writes the buffer between two reads, a struct of both would be made anew after each write, and
+// those that only read would have a second form of each function.
 ghost use Rattle.std.specs.Prelude.{◌≡◌, ◌+◌, ◌*◌, ◌<◌, ◌≤◌, length};
 ghost use Rattle.field.specs.Buffer.{get, load, vector};
 ghost use Rattle.network.specs.Network.{rows};
