@@ -1,12 +1,12 @@
 // Reading from a reader and writing to a writer of std, so that a failure is told from the end of the input.
 // A call that a signal interrupts before it moves a byte is a failure too, since no error is looked into. (A program that handles no signal is not
 // interrupted so.)
-// What `read_all` and `write_all` promise does not say which bytes come in or go out: of a call on standard input or output std promises only the
-// number of bytes.
+// Which bytes go out is said of a writer whose bytes are known, as `read_once` says it of a reader: of a call on standard input or output std promises
+// only the number of bytes, and `read_all` promises no more.
 #![tactic(auto)]
 
-ghost use Rattle.std.specs.Prelude.{◌≤◌, length};
-ghost use Rattle.std.specs.Io.KnownBytes.{ReadConsumes};
+ghost use Rattle.std.specs.Prelude.{◌≤◌, length, take};
+ghost use Rattle.std.specs.Io.KnownBytes.{Appends, ReadConsumes};
 ghost use Rattle.stream.specs.Stream.{ReadInto};
 
 use std::io;
@@ -42,10 +42,11 @@ pub fn read_all<R: Read>(from: &mut R, buf: &mut [u8]) -> io::Result<usize>
     Ok(done)
 }
 
-// Writes buf until all of it is taken, or a write fails or takes nothing, and counts the bytes that were taken: fewer than all only where that
-// happened. No `io::Result<()>`: this cannot fail, and a count below the length says that a write did.
+// Writes buf until all of it is taken, or a write fails or takes nothing, and counts the bytes that were taken, those at its front: fewer than all only
+// where that happened. No `io::Result<()>`: this cannot fail, and a count below the length says that a write did.
 pub fn write_all<W: Write>(to: &mut W, buf: &[u8]) -> usize
-    ensures { result ≤ length buf.now }
+    ensures count { result ≤ length buf.now }
+    ensures bytes { Appends (W.contents to.old) (W.contents to.new) (take result buf.now) }
 {
     let mut rest = buf;
     while !rest.is_empty() {
