@@ -86,12 +86,21 @@ def overflow():
     return image(2, [], [(0, 1, (1.0, 0.0, 0.0), 1e300, 1e10)], [])
 
 
+def heavy_heading():
+    """A long flight line, one tie point between neighbours; the weight of the heading from 26 to 27 was meant to hold it fixed."""
+    cameras, points = strip(52)
+    points = [points[2 * i + i % 2] for i in range(51)]
+    headings = [heading(cameras, i, i + 1, 1e200 if i == 26 else 1.0) for i in range(51)]
+    return image(52, sights(cameras, points), headings, [(0.0, 0.0, 0.0)] * len(points))
+
+
 EXAMPLES = {
     'whole-case': whole_case,
     'healthy-strip': healthy_strip,
     'weak-strip': weak_strip,
     'two-flights': two_flights,
     'overflow': overflow,
+    'heavy-heading': heavy_heading,
     'cut-short': lambda: healthy_strip()[:2000],
 }
 

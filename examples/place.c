@@ -49,10 +49,13 @@ static uint8_t *load(const char *name, size_t *length) {
     return bytes;
 }
 
-/* Ends the program where a call refused; the header has the numbers in words. */
+/* Ends the program where a call refused; the header has the numbers in words. 11 to 13, which only a solve returns, name a camera too. */
 static void check(const char *call, size_t code, const size_t *report) {
     if (code != 0) {
-        fprintf(stderr, "%s: refused %zu place %zu\n", call, code, report[0]);
+        fprintf(stderr, "%s: refused %zu place %zu", call, code, report[0]);
+        if (code >= 11 && code <= 13)
+            fprintf(stderr, " camera %zu", report[1]);
+        fputc('\n', stderr);
         exit(1);
     }
 }
@@ -85,8 +88,8 @@ int main(int argc, char **argv) {
     check("parts", vobzeile_parts(n, m, b, e, ends, 2 * r, weights, r, nodes, n + m, labels, n, report, 1), report);
     const size_t parts = report[0];
 
-    /* Iterative, then dense where that refuses and n-1 is at most the limit. */
-    const size_t route = 3, limit = 256;
+    /* Iterative, then dense where that refuses and n-1 is at most the limit; 48 is the solve program's. */
+    const size_t route = 3, limit = 48;
     check("work_length", vobzeile_work_length(n, m, b, e, route, limit, report, 1), report);
     const size_t work_len = report[0];
     double *work = room(work_len, sizeof *work);

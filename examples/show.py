@@ -47,11 +47,12 @@ def double(digits):
 
 
 def read_text(text):
-    """The printed answer: ('refused', number, place) or a dictionary."""
+    """The printed answer: ('refused', number, place, camera of 11 to 13 or None) or a dictionary."""
     lines = [line.split() for line in text.splitlines()]
     try:
         if lines[0][0] == 'refused':
-            return 'refused', int(lines[0][1]), int(lines[0][3])
+            number, place = int(lines[0][1]), int(lines[0][3])
+            return 'refused', number, place, int(lines[0][5]) if number in (11, 12, 13) else None
         named = lambda line: dict(zip(line[::2], map(int, line[1::2])))
         counts = named(lines[0])
         n, m = counts['cameras'], counts['points']
@@ -103,7 +104,16 @@ def part_labels(answer, rows):
     return [number.get(r) for r in roots]
 
 
-def place_words(number, place, counts):
+def camera_words(number, camera, counts):
+    """Of 11 to 13, what the camera says: it is n where the sum over the cameras stayed finite."""
+    if counts and camera >= counts[0]:
+        left = {11: 'the curvature is too small', 12: 'the old product is at or below 0', 13: 'the residual is above the allowed'}
+        return f'the sum over the cameras stays finite, so {left[number]}'
+    words = f'the sum over the cameras stops being finite at camera {camera}'
+    return words if counts else f'{words} (or stays finite, if there is no camera {camera})'
+
+
+def place_words(number, place, camera, counts):
     """Where a refusal is."""
     if number in (4, 5, 7):
         for name, count in zip(('bearing', 'direction', 'point'), counts[2:] + counts[1:2] if counts else ()):
@@ -114,7 +124,7 @@ def place_words(number, place, counts):
     if number == 9:
         return f'camera {place}'
     if number in (11, 12, 13):
-        return 'xyz'[place] if place < 3 else str(place)
+        return ('xyz'[place] if place < 3 else str(place)) + ', ' + camera_words(number, camera, counts)
     if number in (15, 16, 17):
         return f'dense row {place} (cameras without the anchor, in order)'
     if number == 21:
@@ -124,8 +134,8 @@ def place_words(number, place, counts):
     return {14: f'n-1 = {place}', 23: f'{place} bytes are needed'}.get(number, '')
 
 
-def refusal_words(number, place, image):
-    where = place_words(number, place, image_counts(image) if image else None)
+def refusal_words(number, place, camera, image):
+    where = place_words(number, place, camera, image_counts(image) if image else None)
     return REFUSALS.get(number, 'a number that this script does not know') + (f': {where}' if where else '')
 
 
@@ -322,7 +332,9 @@ def main():
         image = open(given.image, 'rb').read() if given.image else None
         answer = read_text(text)
         if isinstance(answer, tuple):
-            words = f'refused {answer[1]} place {answer[2]}: ' + refusal_words(*answer[1:], image)
+            _, number, place, camera = answer
+            line = f'refused {number} place {place}' + ('' if camera is None else f' camera {camera}')
+            words = f'{line}: ' + refusal_words(number, place, camera, image)
             drawn = refusal_picture(words)
         else:
             rows = image_rows(image, answer) if image is not None else []

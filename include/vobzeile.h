@@ -40,9 +40,10 @@
  * takes images of at most 16,384 bytes and 64 cameras.)
  *
  * Answers. A function (but vobzeile_sqrt) returns 0, and `report` then holds what was asked; or it returns the number of a refusal, whose
- * place is then the report's first number. A report has 1 number; that of a solve, of vobzeile_counts and of vobzeile_read has 4. One of
- * another length is refused by 3, in its turn after 1 and 2 (an image's 20 to 22 come before these), and left; where one of those refuses
- * first, its place is stored if the report has a first number.
+ * place is then the report's first number; for 11 to 13 a camera is its second ('Cameras' below). The report's other numbers are left. A
+ * report has 1 number; that of a solve, of vobzeile_counts and of vobzeile_read has 4. One of another length is refused by 3, in its turn
+ * after 1 and 2 (an image's 20 to 22 come before these), and left; where one of those refuses first, its place is stored if the report has
+ * a first number.
  *
  *    1  n is 0 or over 4,096                                      place 0
  *    2  m, b or e over its limit                                  place 0
@@ -53,9 +54,9 @@
  *    7  weight, scale, ray, direction or position outside the domain     row, b+e+p for point p, b+e+m+c for camera c
  *    8  route not 1, 2 or 3, or dense limit over 256              place 0
  *    9  iterative: diagonal + 1e-6 not finite                     camera
- *   11  iterative: curvature not finite, or at most 2^-52 times the size of the old product     component (0, 1, 2 for x, y, z)
- *   12  iterative: new product not finite, or old one at or below 0     component
- *   13  iterative: final residual not finite or above the allowed component
+ *   11  iterative: curvature not finite, or at most 2^-52 times the size of the old product     component (0, 1, 2 for x, y, z), and camera
+ *   12  iterative: new product not finite, or old one at or below 0     component, and camera
+ *   13  iterative: final residual not finite or above the allowed component, and camera
  *   14  route 1 and n-1 over the dense limit                      n-1
  *   15  dense: pivot not finite or not above 0                    dense row (cameras without the anchor, in order)
  *   16  dense: factor entry not finite                            dense row
@@ -66,6 +67,11 @@
  *   23  image: output shorter than the image                      bytes needed
  *
  * There is no 10: where a camera's diagonal + 1e-6 is finite it is above 0, whatever network is sent.
+ *
+ * Cameras. Curvature, new product and final residual are sums of products over the cameras, in ascending order and without the anchor.
+ * After 11, 12 or 13, which only a solve returns, report[1] is the first camera with which that sum, in the component report[0], was no
+ * longer finite: look first at the rows of this camera. It is n where the sum stayed finite; then the curvature was too small (11), the old
+ * product at or below 0 (12), the residual above the allowed (13).
  *
  * 1 to 8 and 20 to 22 are tested in number order (an image's 20 to 22 before the rest), each at its lowest place. 9 to 17 leave the
  * outputs untouched, the others every buffer but the report's first number and, where 6 has been tested, the marks.
@@ -181,9 +187,9 @@ size_t vobzeile_scales(
  * keeps. Route 1 is dense, 2 iterative, 3 iterative and then dense if that refused and n-1 is within the limit. `report` has 4 numbers:
  * anchor, answering route (3: dense after iterative), rounds (0 where dense answered), and how many cameras, the anchor among them, have
  * fewer than 2 rows: a bearing on a point of a weight below 1e-12 is not counted, a direction is counted at both of its ends, whatever its
- * weight, and a row given twice counts twice. A refusal leaves all but the first. `work` has at least the doubles of
- * vobzeile_work_length, with any content; unless 1 to 8 refused, those are +0.0 afterwards, and any more are left. Refuses by 1 to 17.
- * Points are not tested for finiteness.
+ * weight, and a row given twice counts twice. A refusal leaves all but the first, 11 to 13 all but the first two. `work` has at least the
+ * doubles of vobzeile_work_length, with any content; unless 1 to 8 refused, those are +0.0 afterwards, and any more are left. Refuses by 1
+ * to 17. Points are not tested for finiteness.
  */
 size_t vobzeile_solve(
     size_t n, size_t m, size_t b, size_t e,

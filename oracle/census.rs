@@ -27,6 +27,9 @@ fn main() {
         for class in classes::of_few(&net, &answer) {
             met.meet(class, number);
         }
+        for class in classes::of_camera(net.n, &answer) {
+            met.meet(class, number);
+        }
     }
     println!("{count} networks, seed {seed}");
     for (kind, count) in kinds {

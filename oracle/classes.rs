@@ -38,9 +38,20 @@ pub const WANTED: [&str; 30] = [
     "disconnected",
 ];
 
-/// The classes of `of_few` and `of_lists`, wanted too. The recorded sample is not chosen by them.
+/// The classes of `of_few`, `of_lists` and `of_camera`, wanted too. The recorded sample is not chosen by them.
 pub const FEW: [&str; 3] = ["accepted, few 0", "accepted, few above 0", "accepted, few by a point below 1e-12"];
 pub const LISTS: [&str; 2] = ["lists ascending", "lists in another order"];
+pub const CAMERA: [&str; 9] = [
+    "refused 11, camera amid others",
+    "refused 11, camera below n",
+    "refused 11, camera n",
+    "refused 12, camera amid others",
+    "refused 12, camera below n",
+    "refused 12, camera n",
+    "refused 13, camera amid others",
+    "refused 13, camera below n",
+    "refused 13, camera n",
+];
 
 fn sort(value: f64) -> &'static str {
     if value.is_nan() {
@@ -127,6 +138,19 @@ pub fn of_lists(net: &Network) -> &'static str {
     LISTS[!ascending as usize]
 }
 
+/// The classes of a refusal of 11 to 13 by its camera. Amid others: two cameras or more are before it and two or more after it, so whichever is
+/// the anchor, it is neither the first nor the last that could be named.
+pub fn of_camera(n: usize, answer: &Result<Placement, Tag>) -> Vec<String> {
+    let Some((number, camera)) = answer.as_ref().err().and_then(|tag| Some((tag.number, tag.camera?))) else {
+        return Vec::new();
+    };
+    let mut classes = vec![format!("refused {number}, camera {}", if camera < n { "below n" } else { "n" })];
+    if camera >= 2 && camera + 2 < n {
+        classes.push(format!("refused {number}, camera amid others"));
+    }
+    classes
+}
+
 /// Prints how often the Rust's own text met 10; whether it never did.
 pub fn no_tens() -> bool {
     println!("10, which the Rust's own text tests and no diagonal can meet: met {} times", oracle::tens());
@@ -148,7 +172,7 @@ impl Met {
         for (class, (count, first)) in &self.0 {
             println!("  {count:>8}  {class}  (case {first})");
         }
-        let wanted = || WANTED.iter().chain(&FEW).chain(&LISTS).copied().chain(more.iter().map(String::as_str));
+        let wanted = || WANTED.iter().chain(&FEW).chain(&LISTS).chain(&CAMERA).copied().chain(more.iter().map(String::as_str));
         let holes: Vec<_> = wanted().filter(|class| !self.0.contains_key(*class)).collect();
         if holes.is_empty() {
             println!("every wanted class was met ({} of them)", wanted().count());

@@ -323,7 +323,7 @@ fn compare_solve(call: &Call, route: usize, limit: usize, room: Room, difference
                 }
                 Err(tag) => {
                     answered("solve's refusal", got, tag.number, differences);
-                    report.check(&[tag.place], differences);
+                    report.check(&tag.places(), differences);
                     cameras.untouched(differences);
                     placed.untouched(differences);
                 }
@@ -677,6 +677,9 @@ fn compare(case: &Case, random: &mut Random, met: &mut Met, number: u64, routes:
             met.meet(class, number);
         }
         for class in classes::of_few(&case.net.view(), &answer) {
+            met.meet(class, number);
+        }
+        for class in classes::of_camera(case.net.n, &answer) {
             met.meet(class, number);
         }
         if let (Ok(placement), true) = (answer, route == case.route) {

@@ -67,7 +67,11 @@ pub unsafe extern "C" fn vobzeile_solve(
             report.copy_from_slice(&[answer.anchor, answer.route, answer.rounds, answer.few]);
             0
         }
-        Err(tag) => refuse(report, 4, (tag.number, tag.place)),
+        Err(tag) => {
+            let places = tag.places();
+            report[..places.len()].copy_from_slice(&places);
+            tag.number
+        }
     }
 }
 

@@ -120,7 +120,10 @@ fn printed(bytes: &[u8]) -> String {
     };
     let (_, parts) = oracle::labels(&net.view());
     match oracle::solve(&net.view(), ROUTE, LIMIT) {
-        Err(tag) => format!("refused {} place {}\n", tag.number, tag.place),
+        Err(tag) => {
+            let camera = tag.camera.map_or(String::new(), |camera| format!(" camera {camera}"));
+            format!("refused {} place {}{camera}\n", tag.number, tag.place)
+        }
         Ok(p) => format!(
             "cameras {} points {} bearings {} directions {}\nparts {parts}\nanchor {} route {} rounds {}\nfew {}\n{}{}",
             net.n, net.m, net.b, net.e, p.anchor, p.route, p.rounds, p.few, lines("c", &p.cameras), lines("p", &p.points)

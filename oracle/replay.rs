@@ -17,7 +17,7 @@
 //!   positions ..               3n, cameras to form dots and scales from, together with the old points
 //!   connected YES              1 or 0
 //!   parts COUNT ..             the number of parts, then n labels
-//!   answer 0 ANCHOR ROUTE ROUNDS FEW, or answer NUMBER PLACE of a refusal
+//!   answer 0 ANCHOR ROUTE ROUNDS FEW, or answer NUMBER PLACE of a refusal, or answer NUMBER COMPONENT CAMERA of 11 to 13
 //!   cameras ..                 3n where the solve was accepted, else none
 //!   placed ..                  3m where the solve was accepted, else none
 //!   dots ..                    B+E
@@ -76,7 +76,7 @@ fn block(number: usize, case: &Case) -> String {
             doubles(text, "placed", &placed.points);
         }
         Err(tag) => {
-            wholes(text, "answer", &[tag.number, tag.place]);
+            wholes(text, "answer", &[&[tag.number][..], &tag.places()].concat());
             text.push_str("cameras\nplaced\n");
         }
     }

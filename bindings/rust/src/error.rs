@@ -97,16 +97,22 @@ pub enum Error {
     Curvature {
         /// 0, 1, 2 for x, y, z.
         component: usize,
+        /// The first camera with which the sum over the cameras is not finite. None: it stayed finite, and the curvature is too small.
+        camera: Option<usize>,
     },
     /// 12, iterative: the new product is not finite, or the old one is at or below 0.
     Product {
         /// 0, 1, 2 for x, y, z.
         component: usize,
+        /// The first camera with which the sum over the cameras is not finite. None: it stayed finite, and the old product is at or below 0.
+        camera: Option<usize>,
     },
     /// 13, iterative: the final residual is not finite or above the allowed.
     Residual {
         /// 0, 1, 2 for x, y, z.
         component: usize,
+        /// The first camera with which the sum over the cameras is not finite. None: it stayed finite, and the residual is above the allowed.
+        camera: Option<usize>,
     },
     /// 14: the dense route, and n-1 over the dense limit.
     DenseLimit {
@@ -155,9 +161,12 @@ pub enum Error {
 }
 
 impl Error {
-    /// The refusal by its number and place, in a network of these counts.
-    pub(crate) fn of(number: usize, place: usize, counts: Counts) -> Self {
+    /// The refusal by its number and the report, which has the place and, of 11 to 13, the camera, in a network of these counts.
+    pub(crate) fn of(number: usize, report: &[usize], counts: Counts) -> Self {
+        let place = report[0];
         let row = Row::at(place, counts);
+        // n is no camera
+        let camera = report.get(1).copied().filter(|&c| c < counts.cameras);
         match number {
             1 => Self::CameraCount,
             2 => Self::RowCount,
@@ -175,9 +184,18 @@ impl Error {
             7 => Self::OutsideDomain { row, place },
             8 => Self::Route,
             9 => Self::DiagonalNotFinite { camera: place },
-            11 => Self::Curvature { component: place },
-            12 => Self::Product { component: place },
-            13 => Self::Residual { component: place },
+            11 => Self::Curvature {
+                component: place,
+                camera,
+            },
+            12 => Self::Product {
+                component: place,
+                camera,
+            },
+            13 => Self::Residual {
+                component: place,
+                camera,
+            },
             14 => Self::DenseLimit { dimension: place },
             15 => Self::Pivot { row: place },
             16 => Self::Factor { row: place },
@@ -190,10 +208,10 @@ impl Error {
         }
     }
 
-    /// The refusal by its number and place; a length's with the first of these slices (name, expected, actual) that is wrong.
+    /// The refusal by its number and the report; a length's with the first of these slices (name, expected, actual) that is wrong.
     pub(crate) fn of_lengths(
         number: usize,
-        place: usize,
+        report: &[usize],
         counts: Counts,
         slices: &[(&'static str, usize, usize)],
     ) -> Self {
@@ -204,15 +222,15 @@ impl Error {
                 expected,
                 actual,
             },
-            _ => Self::of(number, place, counts),
+            _ => Self::of(number, report, counts),
         }
     }
 
     /// Nothing where the code is 0, else the refusal.
-    pub(crate) fn check(code: usize, place: usize, counts: Counts) -> Result<(), Self> {
+    pub(crate) fn check(code: usize, report: &[usize], counts: Counts) -> Result<(), Self> {
         match code {
             0 => Ok(()),
-            number => Err(Self::of(number, place, counts)),
+            number => Err(Self::of(number, report, counts)),
         }
     }
 
@@ -243,7 +261,7 @@ impl Error {
         }
     }
 
-    /// The refusal's place; of 4, 5 and 7 the running number over bearings, then directions, points, cameras.
+    /// The refusal's place; of 4, 5 and 7 the running number over bearings, then directions, points, cameras, of 11 to 13 the component.
     pub fn place(&self) -> usize {
         match *self {
             Self::CameraCount
@@ -257,14 +275,27 @@ impl Error {
             | Self::OutsideDomain { place, .. }
             | Self::Other { place, .. } => place,
             Self::DiagonalNotFinite { camera } => camera,
-            Self::Curvature { component }
-            | Self::Product { component }
-            | Self::Residual { component } => component,
+            Self::Curvature { component, .. }
+            | Self::Product { component, .. }
+            | Self::Residual { component, .. } => component,
             Self::DenseLimit { dimension } => dimension,
             Self::Pivot { row } | Self::Factor { row } | Self::BackSubstitution { row } => row,
             Self::ImagePair { pair } => pair,
             Self::ImageSection { section } => section,
             Self::ImageRoom { needed } => needed,
+        }
+    }
+
+    /// The camera whose rows are the first to look at where the iterative part gave up: of 9 that of the diagonal, of 11 to 13 the first
+    /// with which the sum over the cameras is not finite. None where that sum stayed finite (the library's own number is then n), and of
+    /// all other refusals.
+    pub fn camera(&self) -> Option<usize> {
+        match *self {
+            Self::DiagonalNotFinite { camera } => Some(camera),
+            Self::Curvature { camera, .. }
+            | Self::Product { camera, .. }
+            | Self::Residual { camera, .. } => camera,
+            _ => None,
         }
     }
 
@@ -283,6 +314,22 @@ fn section_name(section: usize) -> &'static str {
         .get(section)
         .copied()
         .unwrap_or("?")
+}
+
+/// The camera at which a sum over the cameras stops being finite, or, where it stays finite, what is wrong instead.
+fn sum_words(
+    formatter: &mut fmt::Formatter<'_>,
+    component: usize,
+    sum: &str,
+    camera: Option<usize>,
+    finite: &str,
+) -> fmt::Result {
+    let axis = axis(component);
+    write!(formatter, "iterative: {axis}: the {sum}'s sum ")?;
+    match camera {
+        Some(camera) => write!(formatter, "stops being finite at camera {camera}"),
+        None => write!(formatter, "stays finite, {finite}"),
+    }
 }
 
 impl fmt::Display for Error {
@@ -329,21 +376,18 @@ impl fmt::Display for Error {
             Self::DiagonalNotFinite { camera } => {
                 write!(formatter, "iterative: camera {camera}: diagonal not finite")
             }
-            Self::Curvature { component } => write!(
-                formatter,
-                "iterative: {}: curvature not finite or too small",
-                axis(component)
-            ),
-            Self::Product { component } => write!(
-                formatter,
-                "iterative: {}: new product not finite, or old product at or below 0",
-                axis(component)
-            ),
-            Self::Residual { component } => write!(
-                formatter,
-                "iterative: {}: final residual not finite or above the allowed",
-                axis(component)
-            ),
+            Self::Curvature { component, camera } => {
+                let finite = "and is too small";
+                sum_words(formatter, component, "curvature", camera, finite)
+            }
+            Self::Product { component, camera } => {
+                let finite = "but the old product is at or below 0";
+                sum_words(formatter, component, "new product", camera, finite)
+            }
+            Self::Residual { component, camera } => {
+                let finite = "and is above the allowed";
+                sum_words(formatter, component, "final residual", camera, finite)
+            }
             Self::DenseLimit { dimension } => write!(
                 formatter,
                 "dense: {dimension} rows are over the dense limit"
@@ -401,7 +445,7 @@ mod tests {
         let zero_placed = [1, 2, 3, 6, 8, 20];
         for number in (1..=17).chain(20..=23).chain([18, 99]) {
             for place in [0, 1, 2, 20, 24, 25, 27, 28, 31] {
-                let error = Error::of(number, place, COUNTS);
+                let error = Error::of(number, &[place], COUNTS);
                 assert_eq!(error.number(), number);
                 let place = if zero_placed.contains(&number) {
                     0
@@ -415,6 +459,66 @@ mod tests {
                 let other = matches!(error, Error::Other { .. });
                 assert_eq!(other, [10, 18, 99].contains(&number));
             }
+        }
+    }
+
+    #[test]
+    fn cameras() {
+        for number in (1..=17).chain(20..=23).chain([18, 99]) {
+            for camera in [0, 1, 3, 4, 5, usize::MAX] {
+                let error = Error::of(number, &[2, camera, 7, 7], COUNTS);
+                let named = match number {
+                    9 => Some(2),
+                    11..=13 => (camera < 4).then_some(camera),
+                    _ => None,
+                };
+                assert_eq!(error.camera(), named, "{error:?}");
+                // the place is as without a camera
+                assert_eq!(error.place(), Error::of(number, &[2], COUNTS).place());
+            }
+            // reports of the other calls have one number
+            let named = Error::of(number, &[2], COUNTS).camera();
+            assert_eq!(named, (number == 9).then_some(2));
+        }
+        let component = 1;
+        let camera = Some(3);
+        for (number, error) in [
+            (11, Error::Curvature { component, camera }),
+            (12, Error::Product { component, camera }),
+            (13, Error::Residual { component, camera }),
+        ] {
+            assert_eq!(Error::of(number, &[1, 3, 0, 0], COUNTS), error);
+        }
+    }
+
+    #[test]
+    fn words_of_cameras() {
+        for (number, camera, words) in [
+            (11, 3, "the curvature's sum stops being finite at camera 3"),
+            (11, 4, "the curvature's sum stays finite, and is too small"),
+            (
+                12,
+                0,
+                "the new product's sum stops being finite at camera 0",
+            ),
+            (
+                12,
+                4,
+                "the new product's sum stays finite, but the old product is at or below 0",
+            ),
+            (
+                13,
+                2,
+                "the final residual's sum stops being finite at camera 2",
+            ),
+            (
+                13,
+                4,
+                "the final residual's sum stays finite, and is above the allowed",
+            ),
+        ] {
+            let told = Error::of(number, &[0, camera, 0, 0], COUNTS).to_string();
+            assert_eq!(told, format!("iterative: x: {words}"));
         }
     }
 
@@ -440,11 +544,6 @@ mod tests {
             (7, 28, "camera 0: position outside the domain"),
             (7, 31, "camera 3: position outside the domain"),
             (9, 1, "iterative: camera 1: diagonal not finite"),
-            (
-                13,
-                2,
-                "iterative: z: final residual not finite or above the allowed",
-            ),
             (15, 0, "dense: row 0: pivot not finite or not above 0"),
             (
                 22,
@@ -454,7 +553,7 @@ mod tests {
             (23, 124, "image: the output needs 124 bytes"),
             (40, 6, "refused 40 place 6"),
         ] {
-            assert_eq!(Error::of(number, place, COUNTS).to_string(), words);
+            assert_eq!(Error::of(number, &[place], COUNTS).to_string(), words);
         }
     }
 

@@ -17,7 +17,7 @@ pub fn is_connected(network: &Network<'_>, workspace: &mut Workspace) -> Result<
     let (nodes, _) = workspace.graph(counts);
     let mut report = [0];
     let code = ffi::connected(&network.lent(), nodes, &mut report);
-    Error::check(code, report[0], counts)?;
+    Error::check(code, &report, counts)?;
     Ok(report[0] != 0)
 }
 
@@ -27,7 +27,7 @@ pub fn parts<'w>(network: &Network<'_>, workspace: &'w mut Workspace) -> Result<
     let (nodes, labels) = workspace.graph(counts);
     let mut report = [0];
     let code = ffi::parts(&network.lent(), nodes, labels, &mut report);
-    Error::check(code, report[0], counts)?;
+    Error::check(code, &report, counts)?;
     Ok(Parts {
         labels,
         count: report[0],

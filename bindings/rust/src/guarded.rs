@@ -254,6 +254,11 @@ fn cleared(marks: &Guarded<usize>, code: usize, case: &Case) {
 }
 
 fn solve(case: &Case) -> Outcome {
+    solve_named(case).0
+}
+
+/// The outcome, and the camera that 11 to 13 store behind the place.
+fn solve_named(case: &Case) -> (Outcome, Option<usize>) {
     let buffers = Buffers::of(case);
     let mut marks = Guarded::holding(&case.marks);
     let mut work = Guarded::<f64>::blank(case.work);
@@ -284,11 +289,16 @@ fn solve(case: &Case) -> Outcome {
         cameras.guarded();
         placed.guarded();
         assert!(cameras.get().iter().all(|number| number.is_finite()));
-        return ANSWERED;
+        return (ANSWERED, None);
     }
     cameras.untouched();
     placed.untouched();
-    (code, report.told(code, 4))
+    if (11..=13).contains(&code) {
+        let told = [report.get()[0], report.get()[1]];
+        report.holds(&told);
+        return ((code, told[0]), Some(told[1]));
+    }
+    ((code, report.told(code, 4)), None)
 }
 
 /// Dots and scales, which refuse alike.
@@ -771,6 +781,56 @@ fn routes() {
         ANSWERED,
         ANSWERED,
     );
+}
+
+/// The camera of 11 to 13: where the sum stops being finite, or n. The report's other numbers are left, the work buffer is cleared.
+#[test]
+fn cameras_of_sums() {
+    let named = |spoil: &dyn Fn(&mut Case)| {
+        let mut spoiled = case();
+        spoiled.route = 2;
+        spoil(&mut spoiled);
+        solve_named(&spoiled)
+    };
+    // camera 1 is the anchor
+    assert_eq!(named(&|c| c.rays[9] = 1e200), ((13, 0), Some(0)));
+    assert_eq!(named(&|c| c.rays[13] = 1e200), ((13, 1), Some(2)));
+    // right sides whose square sum is still finite, but not that over the diagonals
+    let light = |c: &mut Case| {
+        c.weights = vec![0.0, 0.0, 0.0, 1e-6, 1e-6];
+        c.rays[14] = 1e159;
+    };
+    assert_eq!(named(&light), ((11, 2), Some(2)));
+    // no such camera on routes that go dense
+    let dense = |c: &mut Case| {
+        light(c);
+        c.route = 3;
+    };
+    assert_eq!(named(&dense), (ANSWERED, None));
+    // products so small that they vanish
+    for (code, strong, weight, ray) in [
+        (
+            11,
+            9.338372753875757e300,
+            1.1672965942344696e300,
+            -6.8710075957e-313,
+        ),
+        (
+            12,
+            1.5216196064818478e301,
+            1.9020245081023097e300,
+            -1.101660789756e-312,
+        ),
+    ] {
+        let vanishing = |c: &mut Case| {
+            c.weights = vec![strong, 0.0, 0.0, 0.0, weight];
+            c.scales = vec![1.0; 5];
+            c.rays.fill(0.0);
+            c.rays[2] = 1.0;
+            c.rays[12] = ray;
+        };
+        assert_eq!(named(&vanishing), ((code, 0), Some(3)));
+    }
 }
 
 #[test]

@@ -6,7 +6,7 @@ use crate::{Counts, Error, Network, ffi};
 pub fn image_counts(bytes: &[u8]) -> Result<Counts, Error> {
     let mut report = [0; 4];
     let code = ffi::counts(bytes, &mut report);
-    Error::check(code, report[0], Counts::default())?;
+    Error::check(code, &report, Counts::default())?;
     let [cameras, points, bearings, directions] = report;
     Ok(Counts {
         cameras,
@@ -39,6 +39,6 @@ pub fn write_image(network: &Network<'_>) -> Result<Vec<u8>, Error> {
 pub fn write_image_into(network: &Network<'_>, out: &mut [u8]) -> Result<usize, Error> {
     let mut report = [0];
     let code = ffi::write(&network.lent(), out, &mut report);
-    Error::check(code, report[0], network.counts())?;
+    Error::check(code, &report, network.counts())?;
     Ok(report[0])
 }

@@ -120,7 +120,7 @@ impl<'a> Network<'a> {
                     ("weights", rows, self.weights.len()),
                     ("scales", rows, self.scales.len()),
                 ];
-                Err(Error::of_lengths(number, report[0], counts, &slices))
+                Err(Error::of_lengths(number, &report, counts, &slices))
             }
         }
     }
@@ -139,7 +139,7 @@ impl<'a> Network<'a> {
             &mut self.rows,
             &mut report,
         );
-        Error::check(code, report[0], counts)?;
+        Error::check(code, &report, counts)?;
         Ok(self)
     }
 
@@ -322,7 +322,7 @@ impl Network<'static> {
             report: &mut report,
         };
         let code = ffi::read(bytes, read);
-        Error::check(code, report[0], counts)?;
+        Error::check(code, &report, counts)?;
         Self {
             cameras: counts.cameras,
             bearings: counts.bearings,

@@ -116,7 +116,7 @@ impl Workspace {
 pub fn work_length(counts: Counts, route: Route, dense_limit: usize) -> Result<usize, Error> {
     let mut report = [0];
     let code = ffi::work_length(counts, route.number(), dense_limit, &mut report);
-    Error::check(code, report[0], counts)?;
+    Error::check(code, &report, counts)?;
     Ok(report[0])
 }
 
@@ -134,8 +134,8 @@ pub fn work_length(counts: Counts, route: Route, dense_limit: usize) -> Result<u
 /// # Errors
 ///
 /// By 6 (point lists that were set break their rule), 7 (a weight, scale or point that was set anew is outside the domain), 8
-/// (`dense_limit` over its limit), 9 to 13 (the iterative part gave up), 14 ([`Route::Dense`], and n-1 is over the limit), 15 to 17 (the
-/// dense part gave up). The network is only read.
+/// (`dense_limit` over its limit), 9 to 13 (the iterative part gave up, on a camera that [`Error::camera`] may name), 14
+/// ([`Route::Dense`], and n-1 is over the limit), 15 to 17 (the dense part gave up). The network is only read.
 pub fn solve(
     network: &Network<'_>,
     workspace: &mut Workspace,
@@ -193,7 +193,7 @@ pub fn solve_into(
             ("cameras", counts.cameras, cameras.len()),
             ("points", counts.points, points.len()),
         ];
-        return Err(Error::of_lengths(code, report[0], counts, &slices));
+        return Err(Error::of_lengths(code, &report, counts, &slices));
     }
     let [anchor, answered, rounds, few] = report;
     let route = match answered {

@@ -28,7 +28,7 @@ fn fill(
                 ("cameras", counts.cameras, cameras.len()),
                 ("out", counts.rows(), out.len()),
             ];
-            Err(Error::of_lengths(number, report[0], counts, &slices))
+            Err(Error::of_lengths(number, &report, counts, &slices))
         }
     }
 }

@@ -111,6 +111,62 @@ fn refused_factor() {
     assert_eq!(refused(&heavy, Route::Dense, 2), (16, 1));
 }
 
+/// Number, place and camera of an iterative refusal.
+#[track_caller]
+fn named(network: &Network) -> (usize, usize, Option<usize>) {
+    let error = placed(network, Route::Iterative, 0).expect_err("a refusal");
+    (error.number(), error.place(), error.camera())
+}
+
+/// A flight line of six cameras, of which 1 is the anchor; the direction from 2 to 3 is `bad`.
+fn line(bad: [f64; 3], weight: f64) -> Network<'static> {
+    let mut directions = [0, 1, 2, 3, 4].map(|camera| (camera, camera + 1, X, weight, 1.0));
+    directions[2].2 = bad;
+    network(6, &[], &directions, &[])
+}
+
+/// 11 to 13 name the first camera with which the running sum over the cameras is not finite.
+#[test]
+fn cameras_of_sums() {
+    // square sums of the right sides are still finite, but not those over the diagonals
+    let curvature = line([0.0, 1e159, 0.0], 1e-6);
+    assert_eq!(named(&curvature), (11, 1, Some(2)));
+    let error = placed(&curvature, Route::Iterative, 0).unwrap_err();
+    let (component, camera) = (1, Some(2));
+    assert_eq!(error, Error::Curvature { component, camera });
+    let words = "iterative: y: the curvature's sum stops being finite at camera 2";
+    assert_eq!(error.to_string(), words);
+    // both products are finite, their sum is not
+    let sum = line([1.7e154, 0.0, 0.0], 0.5);
+    assert_eq!(named(&sum), (11, 0, Some(3)));
+    // a pair of cameras, 2 and 3, that hang together strongly and by a thread from camera 0: the first step goes too far
+    let (soft, near) = (4e-6, 1e152);
+    let right = [(1.0 + soft) * 1.001 * near, 0.999 * near];
+    let directions = [
+        (0, 2, [(right[0] + right[1]) / soft, 0.0, 0.0], soft, 1.0),
+        (2, 3, [right[1], 0.0, 0.0], 1.0, 1.0),
+    ];
+    let product = network(5, &[(0, 0, Z, 10.0, 1.0)], &directions, &[FIVE]);
+    assert_eq!(named(&product), (12, 0, Some(2)));
+    assert_eq!(named(&line([0.0, 0.0, 1e200], 1.0)), (13, 2, Some(2)));
+    // two cameras from one spot at either end of a weak direction: the residual is finite and too large
+    let directions = [
+        (0, 1, [0.0; 3], 2e10, 1.0),
+        (1, 2, X, 1.0, 1.0),
+        (2, 3, [0.0; 3], 1e10, 1.0),
+    ];
+    let excess = network(4, &[], &directions, &[]);
+    assert_eq!(named(&excess), (13, 0, None));
+    let words = "iterative: x: the final residual's sum stays finite, and is above the allowed";
+    let error = placed(&excess, Route::Iterative, 0).unwrap_err();
+    assert_eq!(error.to_string(), words);
+    // 9 names the camera of the diagonal, the dense part none
+    let heavy = pair(1e300, 1e10);
+    assert_eq!(named(&heavy), (9, 1, Some(1)));
+    let error = placed(&heavy, Route::Dense, 1).unwrap_err();
+    assert_eq!(error.camera(), None);
+}
+
 #[test]
 fn refused_rounds() {
     // right sides so small that products vanish
@@ -128,15 +184,19 @@ fn refused_rounds() {
         -6.8710075957e-313,
     );
     assert_eq!(refused(&curvature, Route::Iterative, 2), (11, 0));
+    // sums that stay finite name no camera
+    assert_eq!(named(&curvature).2, None);
     let product = vanishing(
         1.5216196064818478e301,
         1.9020245081023097e300,
         -1.101660789756e-312,
     );
     assert_eq!(refused(&product, Route::Iterative, 2), (12, 0));
+    assert_eq!(named(&product).2, None);
     // a right side whose square sum overflows
     let overflow = network(2, &[], &[(0, 1, [1e200, 0.0, 0.0], 1.0, 1.0)], &[]);
     assert_eq!(refused(&overflow, Route::Iterative, 2), (13, 0));
+    assert_eq!(named(&overflow).2, Some(1));
     let overflow = network(2, &[], &[(0, 1, [0.0, 0.0, 1e200], 1.0, 1.0)], &[]);
     assert_eq!(refused(&overflow, Route::Iterative, 2), (13, 2));
     // and one that is itself infinite

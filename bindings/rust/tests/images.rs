@@ -2,7 +2,7 @@
 
 mod common;
 
-use common::{FIVE, X, Z, bits, network, pair, repository, sight};
+use common::{FIVE, X, Z, bits, network, pair, repository, sight, told};
 use std::fmt::Write;
 use std::fs;
 use vobzeile::{
@@ -150,8 +150,15 @@ fn huge_counts() {
 
 /// What the solve program writes: at most 16,384 bytes and 64 cameras, route 3, dense limit 48.
 fn program(bytes: &[u8]) -> String {
-    placed(bytes)
-        .unwrap_or_else(|error| format!("refused {} place {}\n", error.number(), error.place()))
+    placed(bytes).unwrap_or_else(|error| {
+        let n = image_counts(bytes).map_or(0, |counts| counts.cameras);
+        let names = ["refused", " place", " camera"];
+        let told = names.iter().zip(told(&error, n));
+        let words: String = told
+            .map(|(name, number)| format!("{name} {number}"))
+            .collect();
+        words + "\n"
+    })
 }
 
 fn placed(bytes: &[u8]) -> Result<String, Error> {

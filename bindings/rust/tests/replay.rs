@@ -3,7 +3,7 @@
 
 mod common;
 
-use common::{all_bits, repository};
+use common::{all_bits, repository, told};
 use std::collections::BTreeMap;
 use std::fs;
 use vobzeile::{
@@ -93,7 +93,7 @@ fn replay(case: &Case, workspace: &mut Workspace) -> usize {
                 assert_eq!(all_bits(positions.as_flattened()), wanted, "{name}");
             }
         }
-        Err(error) => assert_eq!(answer, [error.number(), error.place()]),
+        Err(error) => assert_eq!(answer, told(&error, n)),
     }
 
     let positions = case.vectors("positions");

@@ -24,7 +24,8 @@ use Rattle.image.specs.Calls.{counts_if, counts_of, after, lists, read_verdict, 
 use Rattle.image.proofs.Domain.{length-wholes-from, length-doubles-from}
 use Rattle.image.proofs.Passing.{counted-sound}
 use Rattle.command.specs.declared.Reported.{Reported}
-use Rattle.command.specs.Command.{too_long, too_many, program_tests, refused_line, ImageSolved, Outcome}
+use Rattle.text.specs.Text.{refused_text}
+use Rattle.command.specs.Command.{too_long, too_many, program_tests, ImageSolved, Outcome}
 use Rattle.command.specs.inner.Steps.{CountsPassed, Small, ContentSound, RefusedAs, Steps}
 use Rattle.command.proofs.Printing.{steps-as}
 use Rattle.command.proofs.Passing.{fits, skipped, lengths-fit}
@@ -45,7 +46,7 @@ counted-passed (Ok tt) s x e = let f : x ≡ s = cc in (refl, f)
 
 outcome-refused : (l : List ℕ) (x : Refusal) → verdict (program_tests l) ≡ Err x → (a : Result Report Refusal) (t : List ℕ) → RefusedAs x a t → Outcome l a t
 outcome-refused l x e a t h = record {
-  refused = λ r q. let f : x ≡ r = cc in (h.answered ∙ ap Err f, h.printed ∙ ap refused_line f);
+  refused = λ r q. let f : x ≡ r = cc in (h.answered ∙ ap Err f, h.printed ∙ ap refused_text f);
   passed = λ q. absurd (refused-passed x (sym e ∙ q));
 }
 
@@ -53,7 +54,7 @@ outcome-passed : (l : List ℕ) → verdict (program_tests l) ≡ Ok tt → (a :
 outcome-passed l e a t h = record { refused = λ r q. absurd (refused-passed r (sym q ∙ e)); passed = λ q. h }
 
 -- what a step that refuses leaves to be printed
-pub refused-outcome : (l : List ℕ) (q : Refusal) → verdict (program_tests l) ≡ Err q → Outcome l (Err q) (refused_line q)
+pub refused-outcome : (l : List ℕ) (q : Refusal) → verdict (program_tests l) ≡ Err q → Outcome l (Err q) (refused_text q)
 refused-outcome l q e = outcome-refused l q e _ _ (record { answered = refl; printed = refl })
 
 -- ---- the length

@@ -30,7 +30,8 @@ use Rattle.lists.specs.inner.Sorted.{Rows}
 use Rattle.lists.proofs.Sorting.{offsets-table, listed-placed}
 use Rattle.lists.proofs.Holding.{sorted-holds}
 use Rattle.command.specs.declared.Reported.{Reported}
-use Rattle.command.specs.Command.{placed_lines, lines, network_of, ending, CamerasMeant, ImageSolved, Prints, refused_line}
+use Rattle.text.specs.Text.{refused_text}
+use Rattle.command.specs.Command.{placed_lines, lines, network_of, ending, CamerasMeant, ImageSolved, Prints}
 use Rattle.command.specs.inner.Steps.{Small, ContentSound, Listed, BuffersSized, PartCount, text_of, AnsweredAs, Steps, printed}
 use Rattle.command.proofs.Printing.{vectors-flat, prints-as}
 use Rattle.command.proofs.Passing.{fits, ends-passed}
@@ -145,5 +146,5 @@ module _ (c : Content) (k : ℕ) (x : Result Report Refusal) (cs qs : List Float
   unfolding Steps
   solved-printed s r e f = let g = rw f at h in prints-as (λ b u q. rw (q.answered, q.printed, e) g)
 
-  pub solve-refused : (r : Refusal) → x ≡ Err r → ImageSolved c (Err r) (refused_line r)
+  pub solve-refused : (r : Refusal) → x ≡ Err r → ImageSolved c (Err r) (refused_text r)
   solve-refused r f = rw f at h

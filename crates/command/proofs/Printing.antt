@@ -18,16 +18,17 @@ use Rattle.command.specs.declared.Printed.{Printed}
 use Rattle.command.specs.declared.Reported.{Reported}
 use Rattle.std.specs.Result.{IsErrAnd}
 use Rattle.network.proofs.Verdicts.{given}
-use Rattle.command.specs.Command.{refused_line, placed_lines, Prints}
+use Rattle.text.specs.Text.{refused_text}
+use Rattle.command.specs.Command.{placed_lines, Prints}
 use Rattle.command.specs.inner.Steps.{RefusedAs, AnsweredAs, Steps, printed}
 
 -- a buffer with the room for a text holds it
 put-fits : (v : ℕ) {out out' text : List ℕ} {r : ℕ} → length out ≡ 65536 → v ≤ 744 → PutIfRoom out out' v text r → Put out out' 0 text 65536 r
 put-fits v {out} e h p = rw e at (rw (le-leb (room v) (length out) (omega arith)) at p)
 
-pub refusal-printed : (x : Refusal) (out out' : List ℕ) {r : ℕ} → PutIfRoom out out' 0 (refused_line x) r → length out ≡ 65536 →
+pub refusal-printed : (x : Refusal) (out out' : List ℕ) {r : ℕ} → PutIfRoom out out' 0 (refused_text x) r → length out ≡ 65536 →
     Prints (RefusedAs x) (record { answer = Err x; length = r }) out out'
-refusal-printed x out out' p e = record { text = refused_line x; put = put-fits 0 e (omega arith) p; holds = record { answered = refl; printed = refl } }
+refusal-printed x out out' p e = record { text = refused_text x; put = put-fits 0 e (omega arith) p; holds = record { answered = refl; printed = refl } }
 
 pub report-printed : (s : Shape) (k : ℕ) (p : Report) (cs ps : List Float) (out out' : List ℕ) {r : ℕ} →
     PutIfRoom out out' (length cs / 3 + length ps / 3) (placed_lines s k p (vectors_in cs) (vectors_in ps)) r → length out ≡ 65536 → (length cs ≤ 192) × (length ps ≤ 2040) →
@@ -65,7 +66,7 @@ module _ {P : Result Report Refusal → List ℕ → Type 0} {x : Result Reporte
       rw k.1 at i
 
 -- a step that hands a refusal out
-pub handed : (P : Result Report Refusal → List ℕ → Type 0) (x : Result Reported Refusal) (q : Refusal) (out : List ℕ) → IsErrAnd x (λ e. e ≡ q) → P (Err q) (refused_line q) → Steps P x out out
+pub handed : (P : Result Report Refusal → List ℕ → Type 0) (x : Result Reported Refusal) (q : Refusal) (out : List ℕ) → IsErrAnd x (λ e. e ≡ q) → P (Err q) (refused_text q) → Steps P x out out
 unfolding Steps
 handed P x q out g h = rw (given g) (h, refl)
 

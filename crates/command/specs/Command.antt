@@ -7,7 +7,7 @@ use Rattle.network.specs.declared.Refusal.{Refusal}
 use Rattle.network.specs.Refusals.{Verdict}
 use Rattle.network.specs.declared.Shape.{Shape}
 use Rattle.network.specs.Network.{Content, Graph, graph, Network, network}
-use Rattle.network.specs.Refusals.{number, test, verdict}
+use Rattle.network.specs.Refusals.{test, verdict}
 use Rattle.graph.specs.Outcome.{Labelled}
 use Rattle.graph.specs.Distinct.{distinct}
 use Rattle.recover.specs.Recover.{points_of}
@@ -43,10 +43,6 @@ program_tests bytes =
     ++ ((test Cameras (too_many (shape_at 36 bytes)) ∷ [])
     ++ row_tests (content_of bytes)))
 
--- the line of a refusal
-abbrev pub refused_line : Refusal → List ℕ
-refused_line r = refused_text (number r.cause) r.place
-
 -- ---- what is solved
 
 abbrev pub graph_of : Content → Graph
@@ -70,8 +66,8 @@ placed_lines s parts p cameras points =
 
 -- 'A refusal prints only' its line.
 abbrev pub lines : Network → (parts : ℕ) → Placement → List ℕ
-lines net parts (rejected r) = refused_line r
-lines net parts (failing r) = refused_line r
+lines net parts (rejected r) = refused_text r
+lines net parts (failing r) = refused_text r
 lines net parts (placed route rounds cameras) = placed_lines net.shape parts (report net route rounds) cameras (points_of net cameras)
 
 -- Demand 3, of what is printed. The text has the bits of these cameras, and of them and the report p all of the demand is true: `Meaning` has a field
@@ -95,7 +91,7 @@ pub record ImageSolved (c : Content) (answer : Result Report Refusal) (text : Li
 
 -- Of the bytes of its input: the answer and the text that it prints. The bytes alone fix both: `OutcomeUnique`.
 pub record Outcome (bytes : List ℕ) (answer : Result Report Refusal) (text : List ℕ) : Type 0 where
-  pub refused : (r : Refusal) → verdict (program_tests bytes) ≡ Err r → (answer ≡ Err r) × (text ≡ refused_line r)
+  pub refused : (r : Refusal) → verdict (program_tests bytes) ≡ Err r → (answer ≡ Err r) × (text ≡ refused_text r)
   pub passed : verdict (program_tests bytes) ≡ Ok tt → ImageSolved (content_of bytes) answer text
 
 -- proved in proofs/Unique.antt: `outcome-unique`

@@ -12,8 +12,7 @@ use text::{put_placed, put_refused};
 pub fn refuse(refusal: Refusal, text: &mut [u8; 65536]) -> Printed
     ensures { Prints (RefusedAs refusal) result text.old text.new }
 {
-    let number = refusal.cause.number();
-    let length = put_refused(number, refusal.place, text);
+    let length = put_refused(refusal, text);
     Printed {
         answer: Err(refusal),
         length,

@@ -100,9 +100,13 @@ fn answer(name: &[u8], given: Result<Report, Refusal>) {
     match given {
         Err(r) => {
             write_all(1, b": refused");
-            number(r.cause.number());
+            number(r.number());
             write_all(1, b" place");
-            number(r.place);
+            number(r.place());
+            if let Some(camera) = r.camera() {
+                write_all(1, b" camera");
+                number(camera);
+            }
         }
         Ok(p) => {
             write_all(1, b": anchor");

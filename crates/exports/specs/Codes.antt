@@ -1,20 +1,28 @@
 -- How an answer goes to C: a code, 0 or the refusal's number, and the lent report: what was asked, or the refusal's place as its first number
--- (document 01: 'A refusal returns number and place').
-use Rattle.std.specs.Prelude.{ℕ, ◌≡◌, List, [], ◌∷◌, Bool, cond, set, Result, Ok, Err}
+-- (document 01: 'A refusal returns number and place') and the camera of 11 to 13 as its second (document 02, R-2).
+use Rattle.std.specs.Prelude.{ℕ, ◌≡◌, List, [], ◌∷◌, Bool, cond, set, None, Option, Some, Result, Ok, Err}
 use Rattle.network.specs.declared.Refusal.{Refusal}
 use Rattle.network.specs.declared.Shape.{Shape}
-use Rattle.network.specs.Refusals.{Verdict, number}
+use Rattle.network.specs.Refusals.{Verdict, camera, number, place}
 use Rattle.placement.specs.declared.Report.{Report}
 
 -- 0, or the refusal's number
 abbrev pub code_of : {A : Type 0} → Result A Refusal → ℕ
 code_of (Ok a) = 0
-code_of (Err r) = number r.cause
+code_of (Err r) = number r
 
--- the report: what `tell` says of an answer, or the place of the refusal as its first number
+-- what a refusal tells, at the front of a report, as far as that has room: its place, and its camera where it has one
+abbrev pub with_camera : Option ℕ → List ℕ → List ℕ
+with_camera (Some c) report = set report 1 c
+with_camera None report = report
+
+abbrev pub refused_report : Refusal → List ℕ → List ℕ
+refused_report r report = with_camera (camera r) (set report 0 (place r))
+
+-- the report: what `tell` says of an answer, or what a refusal tells
 abbrev pub report_of : {A : Type 0} → (A → List ℕ) → Result A Refusal → List ℕ → List ℕ
 report_of tell (Ok a) report = tell a
-report_of tell (Err r) report = set report 0 r.place
+report_of tell (Err r) report = refused_report r report
 
 -- ---- what is told
 
@@ -42,12 +50,12 @@ counted s = s.cameras ∷ s.points ∷ s.bearings ∷ s.directions ∷ []
 
 -- the refusal of those tests, else 3
 abbrev pub unreported_code : Verdict → ℕ
-unreported_code (Err r) = number r.cause
+unreported_code (Err r) = number r
 unreported_code (Ok u) = 3
 
--- the place of that refusal as the first number, if there is one; a report that is refused itself is left, as every buffer is
+-- what that refusal tells, as far as the report has room; a report that is refused itself is left, as every buffer is
 abbrev pub unreported_report : Verdict → List ℕ → List ℕ
-unreported_report (Err r) report = set report 0 r.place
+unreported_report (Err r) report = refused_report r report
 unreported_report (Ok u) report = report
 
 pub record Unreported (earlier : Verdict) (code : ℕ) (report report' : List ℕ) : Type 0 where

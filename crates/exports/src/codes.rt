@@ -1,6 +1,7 @@
 // How an answer goes to C (specs/Codes).
-ghost use Rattle.std.specs.Prelude.{◌≡◌, ◌<◌, [], ◌∷◌, length};
-ghost use Rattle.exports.specs.Codes.{code_of, report_of, yes_or_no, one, solved, counted, Unreported};
+ghost use Rattle.std.specs.Prelude.{◌≡◌, ◌<◌, [], ◌∷◌, length, set};
+ghost use Rattle.network.specs.Refusals.{number};
+ghost use Rattle.exports.specs.Codes.{code_of, refused_report, report_of, yes_or_no, one, solved, counted, Unreported};
 
 use network::{Cause, Refusal, Shape};
 use placement::Report;
@@ -38,7 +39,28 @@ pub(crate) fn counted(s: Shape) -> [usize; 4]
     [s.cameras, s.points, s.bearings, s.directions]
 }
 
-// Stores N numbers that an accepted call tells, or the place of a refusal as the first number. The code is 0, or the refusal's number.
+// Stores number i, where the report has it.
+fn put(report: &mut [usize], i: usize, x: usize)
+    ensures { report.new ≡ set report.old i x }
+{
+    if i < report.len() {
+        report[i] = x;
+    }
+}
+
+// Stores the place of a refusal as the first number, and its camera as the second, where it has one. The code is the refusal's number.
+fn refused(report: &mut [usize], r: Refusal) -> usize
+    ensures coded { result ≡ number r }
+    ensures reported { report.new ≡ refused_report r report.old }
+{
+    put(report, 0, r.place());
+    if let Some(camera) = r.camera() {
+        put(report, 1, camera);
+    }
+    r.number()
+}
+
+// Stores N numbers that an accepted call tells, or what a refusal tells. The code is 0, or the refusal's number.
 pub(crate) fn finish<const N: usize>(
     report: &mut [usize],
     answer: Result<[usize; N], Refusal>,
@@ -52,25 +74,17 @@ pub(crate) fn finish<const N: usize>(
             report.copy_from_slice(&told);
             0
         }
-        Err(r) => {
-            report[0] = r.place;
-            r.cause.number()
-        }
+        Err(r) => refused(report, r),
     }
 }
 
-// The code where the report has not its length, by the verdict of the tests before 3: their refusal, its place as the first number of a report
-// that has one; else 3, and the report is left.
+// The code where the report has not its length, by the verdict of the tests before 3: their refusal, and what it tells as far as the report has
+// room; else 3, and the report is left.
 pub(crate) fn unreported(report: &mut [usize], earlier: Result<(), Refusal>) -> usize
     ensures { Unreported earlier result report.old report.new }
 {
     match earlier {
-        Err(first) => {
-            if 0 < report.len() {
-                report[0] = first.place;
-            }
-            first.cause.number()
-        }
-        Ok(()) => Cause::Lengths.number(),
+        Err(first) => refused(report, first),
+        Ok(()) => Cause::Lengths as usize,
     }
 }

@@ -20,11 +20,12 @@ use Rattle.double.proofs.Finite.{finite-sub, finite-no-nan}
 use Rattle.double.proofs.Truth.{neither}
 use Rattle.double.proofs.Order.{le_of_not_lt}
 use Rattle.network.specs.Network.{Network, links_of}
+use Rattle.network.specs.declared.CameraSum.TheVariants.{Residual}
 use Rattle.network.specs.inner.Sound.{NetworkSound}
 use Rattle.system.specs.System.{terms, anchor, weights_of}
 use Rattle.operator.proofs.OperatorLaws.{by-finite}
 use Rattle.iterative.specs.Problem.{Problem, Faithful, Regular, most_rounds}
-use Rattle.iterative.specs.Method.{State, Run, running, ended, failed, accepted as taken, accepted_unless, component, bad_residual, difference, difference_entry, square_sum}
+use Rattle.iterative.specs.Method.{State, Run, running, ended, failed, accepted as taken, component, bad_residual, difference_entry, refused, residual_field, square_sum, sum_test, unless}
 use Rattle.iterative.specs.Method.{allowed, rounds, residual_of, closed, solution}
 use Rattle.iterative.specs.Reduced.{problem, problem_by}
 use Rattle.system.proofs.Anchor.{anchor-below}
@@ -56,15 +57,17 @@ record Closed (P : Problem) (m : ℕ) (s : State) : Type 0 where
   passed : component (bad_residual (allowed P) (residual_of P s.positions)) ≡ None
 
 module _ (P : Problem) (m : ℕ) (s : State) where
-  tested-closed : (t : State) (p : Option ℕ) → component (bad_residual (allowed P) (residual_of P t.positions)) ≡ p → accepted_unless p t ≡ taken s → Shaped P t → t.round.count ≤ m → Closed P m s
-  tested-closed t (Some i) q e h l = absurd (let z : ◌≡◌ {A = ℕ} 0 1 = cc in omega arith)
-  tested-closed t None q e h l =
+  tested-closed : (t : State) (p : Option ℕ) (camera : Axis → ℕ) → component (bad_residual (allowed P) (residual_of P t.positions)) ≡ p →
+      unless refused (sum_test Residual p camera) (taken t) ≡ taken s → Shaped P t → t.round.count ≤ m → Closed P m s
+  unfolding sum_test
+  tested-closed t (Some i) camera q e h l = absurd (let z : ◌≡◌ {A = ℕ} 0 1 = cc in omega arith)
+  tested-closed t None camera q e h l =
       let z : t ≡ s = cc in
       subst (Closed P m) z (record { shaped = h; count = l; passed = q })
 
   closed_of : (r : Run) → Reached P m r → closed P r ≡ taken s → Closed P m s
-  closed_of (running t) h e = tested-closed t _ refl e h.kept (omega arith)
-  closed_of (ended t) h e = tested-closed t _ refl e h.kept h.count
+  closed_of (running t) h e = tested-closed t _ _ refl e h.kept (omega arith)
+  closed_of (ended t) h e = tested-closed t _ _ refl e h.kept h.count
   closed_of (failed r) h e = absurd (let z : ◌≡◌ {A = ℕ} 0 1 = cc in omega arith)
 
 -- ---- what a residual that passes says of the cameras x, whichever method they come from
@@ -75,7 +78,7 @@ module _ (P : Problem) (x : List Vec3) (k : Axis) (e : finite (on k (residual_of
   unfolding residual_of difference_entry
   sides-finite =
       let u = P.operator x in
-      let f = difference P.cameras u P.right in
+      let f = residual_field P x in
       let h = (finite-dot k P.anchor f f P.cameras e i l d).0 in
       finite-sub binary64 _ _ (sym (ap finite (ap (on k) (get_or-field P.cameras (difference_entry u P.right) i origin l) ∙ on-minus k _ _)) ∙ h)
 

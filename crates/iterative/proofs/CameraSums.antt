@@ -1,23 +1,28 @@
 -- Sums over the cameras but the anchor, seen on an axis. Assumes nothing.
 use mathlib.Core.Path.{◌≡◌, refl, sym, ap, ◌∙◌}
-use mathlib.Core.Bool.{Bool, true, false, cond}
+use mathlib.Core.Bool.{Bool, true, false, cond, not}
 use mathlib.Core.Logic.{⊎_elim}
 use mathlib.Core.List.{List}
-use Prim.Native.Nat.{ℕ, suc, ◌<◌}
+use Prim.Native.Nat.{ℕ, suc, zero, ◌+◌, ◌<◌}
+use native.Mathlib.Numerals.{add-one}
+use Rattle.std.proofs.Common.{None, Option, Some}
+use Rattle.std.specs.Prelude.{unwrap_or}
+use Rattle.std.proofs.lemmas.Bool.{true≢false}
 use native.Mathlib.Omega.{arith}
 use native.Mathlib.Nat.{eq-or-lt_of_le, le_of_suc-le-suc}
-use borrow.Author.Tests.{eqb-true, eqb-false}
+use borrow.Author.Tests.{eq-eqb, eqb-true, eqb-false, not-false}
 use lib.Dec.{eqb}
 use lib.Ieee.{Float, binary64, add, mul, of_bits, is_nan}
 use lib.Ieee.Scale.{finite}
 use Rattle.field.specs.declared.Vec3.{Vec3}
 use Rattle.field.specs.Vec.{Axis, at, on, null, origin, plus}
-use Rattle.field.specs.Count.{upto}
+use Rattle.field.specs.Count.{lowest, upto}
 use Rattle.field.proofs.Vectors.{on-each, on-plus, on-origin}
-use Rattle.field.proofs.Counting.{upto-map, upto-invariant}
+use Rattle.field.proofs.Counting.{found, lowest-found, lowest-more, lowest-zero, none_of, upto-map, upto-invariant, upto-suc, upto_zero}
 use Rattle.double.specs.Sums.{unsigned}
 use Rattle.double.proofs.Finite.{finite-add, finite-mul, unsigned-add, unsigned-square}
-use Rattle.iterative.specs.Problem.{times, dot_step, field_dot}
+use Rattle.iterative.specs.CameraSums.{FirstNotFinite}
+use Rattle.iterative.specs.Problem.{times, dot_step, field_dot, first_not_finite, not_finite_after}
 
 pub on-times : (k : Axis) (a b : Vec3) → on k (times a b) ≡ mul binary64 (on k a) (on k b)
 unfolding times
@@ -77,3 +82,79 @@ module _ (k : Axis) (a : ℕ) (f g : List Vec3) where
 pub unsigned-squares : (k : Axis) (n a : ℕ) (f : List Vec3) → ((i : ℕ) → i < n → (i ≡ a → ⊥) → is_nan (on k (at f i)) ≡ false) → unsigned (on k (field_dot n a f f)) ≡ true
 unfolding of_bits
 unsigned-squares k n a f h = ap unsigned (on-dot k a f f n) ∙ unsigned-skip a (product k a f f) n null refl (λ i l d. unsigned-square binary64 (on k (at f i)) (h i l d))
+
+-- ---- the first camera at which component k of the running sum is not finite
+
+module _ (a : ℕ) (f g : List Vec3) (k : Axis) where
+  abbrev over : ℕ → Bool
+  over = not_finite_after a f g k
+
+  over-is : (i : ℕ) (s : Vec3) (b : Bool) → s ≡ upto (dot_step a f g) (i + 1) origin → b ≡ finite (on k s) → over i ≡ not b
+  unfolding not_finite_after field_dot
+  over-is i s b e q = rw (q, e) refl
+
+  -- a search from camera 0 on, whose sum with camera i's products is s: it goes on, is over, or found none
+  module _ (i : ℕ) (s : Vec3) (b : Bool) (e : s ≡ upto (dot_step a f g) (i + 1) origin) (q : b ≡ finite (on k s)) (before : lowest over i ≡ None) where
+    pub camera-more : b ≡ true → lowest over (i + 1) ≡ None
+    camera-more t = rw add-one (lowest-more over i before (over-is i s b e q ∙ rw t refl))
+
+    pub camera-found : (n : ℕ) → i < n → b ≡ false → i ≡ first_not_finite n a f g k
+    unfolding first_not_finite
+    camera-found n l t = rw (lowest-found over i n before (over-is i s b e q ∙ rw t refl) l) refl
+
+  pub camera-stayed : (n : ℕ) → lowest over n ≡ None → n ≡ first_not_finite n a f g k
+  unfolding first_not_finite
+  camera-stayed n h = rw h refl
+
+  -- ---- what the camera says of the sum
+
+  sum-none : finite (on k (field_dot 0 a f g)) ≡ true
+  unfolding field_dot of_bits
+  sum-none = ap finite (ap (on k) (upto_zero (dot_step a f g) origin) ∙ on-origin k)
+
+  sum-more : (i : ℕ) → on k (field_dot (suc i) a f g) ≡ skip a (product k a f g) i (on k (field_dot i a f g))
+  unfolding field_dot
+  sum-more i = ap (on k) (upto-suc (dot_step a f g) i origin) ∙ on_step k a f g i _
+
+  sum-anchor : on k (field_dot (suc a) a f g) ≡ on k (field_dot a a f g)
+  sum-anchor = sum-more a ∙ rw (eq-eqb a a refl) refl
+
+  sum-before : (i : ℕ) → finite (on k (field_dot (suc i) a f g)) ≡ true → finite (on k (field_dot i a f g)) ≡ true
+  sum-before i e = go (eqb i a) (sym (ap finite (sum-more i)) ∙ e)
+    where
+      go : (b : Bool) → finite (cond b (on k (field_dot i a f g)) (add binary64 (on k (field_dot i a f g)) (product k a f g i))) ≡ true → finite (on k (field_dot i a f g)) ≡ true
+      go true h = h
+      go false h = (finite-add binary64 _ _ h).0
+
+  over-none : (n : ℕ) → finite (on k (field_dot n a f g)) ≡ true → lowest over n ≡ None
+  unfolding not_finite_after
+  over-none zero e = lowest-zero over
+  over-none (suc n) e = lowest-more over n (over-none n (sum-before n e)) (rw (add-one, e) refl)
+
+  finite-until : (i : ℕ) → ((j : ℕ) → j < i → over j ≡ false) → finite (on k (field_dot i a f g)) ≡ true
+  unfolding not_finite_after
+  finite-until zero h = sum-none
+  finite-until (suc j) h = let e = not-false _ (h j (omega arith)) in rw add-one at e
+
+  stopped-below : (n : ℕ) → finite (on k (field_dot n a f g)) ≡ false → (r : Option ℕ) → lowest over n ≡ r → unwrap_or r n < n
+  unfolding not_finite_after
+  stopped-below n e (Some i) q = (found over n i q).1
+  stopped-below n e None q = absurd (true≢false (sym (finite-until n (none_of over n q)) ∙ e))
+
+  over-anchor : finite (on k (field_dot a a f g)) ≡ true → over a ≡ false
+  unfolding not_finite_after
+  over-anchor e = rw (add-one, sum-anchor, e) refl
+
+  anchor-left : (n : ℕ) → a < n → (r : Option ℕ) → lowest over n ≡ r → unwrap_or r n ≡ a → ⊥
+  anchor-left n l None q e = omega (arith, l, e)
+  anchor-left n l (Some i) q e =
+      let F = found over n a (q ∙ ap Some e) in
+      true≢false (sym F.0 ∙ over-anchor (finite-until a F.2))
+
+  pub first-not-finite : (n : ℕ) → FirstNotFinite n a f g k
+  unfolding first_not_finite
+  first-not-finite n = record {
+    all_finite = λ e. sym (camera-stayed n (over-none n e));
+    below = λ e. stopped-below n e (lowest over n) refl;
+    not_anchor = λ l e. anchor-left n l (lowest over n) refl e;
+  }

@@ -1,5 +1,7 @@
 -- What the method answers on small networks, by computing. Assumes nothing.
 use Rattle.network.specs.declared.Cause.TheVariants.{Diagonal}
+use Rattle.network.specs.declared.Refusal.TheVariants.{At}
+use Rattle.network.specs.Refusals.{test_at}
 use mathlib.Core.Path.{◌≡◌, refl}
 use mathlib.Core.List.{List, [], ◌∷◌, ◌++◌}
 use mathlib.Core.Bool.{false}
@@ -9,12 +11,13 @@ use lib.Ieee.{binary64, of_bits}
 use Rattle.sqrt.specs.Root.{root}
 use Rattle.field.specs.Buffer.{flat, store, vector, write}
 use Rattle.field.specs.declared.Vec3.{Vec3}
-use Rattle.field.specs.Vec.{null, origin}
+use Rattle.field.specs.Count.{lowest}
+use Rattle.field.specs.Vec.{X, Y, null, origin}
 use Rattle.network.specs.declared.Shape.{Shape}
 use Rattle.system.specs.System.{one, diagonal_of}
 use Rattle.system.specs.declared.CameraTerm.{CameraTerm}
-use Rattle.iterative.specs.Problem.{times, dot_step, field_dot, most_rounds}
-use Rattle.iterative.specs.Method.{State, accepted, refused, bound_of, allowed_of, starts_active, stays_active, bad_curvature, bad_product, bad_residual, quotient, stepped, search_step}
+use Rattle.iterative.specs.Problem.{times, dot_step, field_dot, first_not_finite, most_rounds, not_finite_after}
+use Rattle.iterative.specs.Method.{State, accepted, refused, bound_of, allowed_of, starts_active, stays_active, sum_test, bad_curvature, bad_product, bad_residual, quotient, stepped, search_step}
 use Rattle.iterative.specs.Method.{preconditioned_entry, stepped_entry, search_entry, difference_entry, square_sum, start, bad_diagonal, moved, redirected, round, rounds, residual_of, solution}
 use Rattle.operator.specs.Operator.{changed, times as repeated, ridge_entry, bearing_step, span_pass, point_step, direction_step, reduced_by}
 use Rattle.iterative.specs.Opening.{filled, segments_of}
@@ -24,7 +27,7 @@ use Rattle.system.specs.Edges.{directed, half, pair, single}
 
 -- to unfold this is to unfold what a solution is computed with
 unfoldable pub computing : Unit {0}
-unfolding assembly root
+unfolding assembly root test_at sum_test
     times dot_step field_dot most_rounds bound_of allowed_of starts_active stays_active bad_curvature bad_product bad_residual quotient stepped search_step
     preconditioned_entry stepped_entry search_entry difference_entry square_sum start bad_diagonal moved redirected round rounds residual_of solution
     changed repeated ridge_entry bearing_step span_pass point_step direction_step reduced_by diagonal_of right_entry problem_by
@@ -49,7 +52,7 @@ unfolding computing single
 whole-solution = refl
 
 -- weight 1e300, scale 1e10: 9 at camera 1
-pub overflowing-fails : solution (problem pair) ≡ refused (record { cause = Diagonal; place = 1 })
+pub overflowing-fails : solution (problem pair) ≡ refused (At Diagonal 1)
 unfolding computing directed
 overflowing-fails = refl
 
@@ -85,3 +88,13 @@ first-of-two = refl
 pub most-rounds : (most_rounds 1 ≡ 64) × (most_rounds 9 ≡ 64) × (most_rounds 10 ≡ 72) × (most_rounds 501 ≡ 4000) × (most_rounds 502 ≡ 4000)
 unfolding most_rounds
 most-rounds = (refl, refl, refl, refl, refl)
+
+-- the first camera at which the sum of squares of x is not finite, with 1e200 at camera 1, and at camera 1 and 2; n in y; where camera 1 is the anchor, that of camera 2
+abbrev huge : Vec3
+huge = record { x = of_bits binary64 0x6974e718d7d7625a; y = one; z = null }
+
+pub cameras-named : let once = across ∷ huge ∷ across ∷ [] in let twice = across ∷ huge ∷ huge ∷ [] in
+    (first_not_finite 3 0 once once X ≡ 1) × (first_not_finite 3 0 twice twice X ≡ 1) × (first_not_finite 3 0 once once Y ≡ 3)
+    × (first_not_finite 3 1 twice twice X ≡ 2) × (first_not_finite 3 1 once once X ≡ 3)
+unfolding computing first_not_finite not_finite_after lowest
+cameras-named = (refl, refl, refl, refl, refl)

@@ -1,11 +1,11 @@
 -- One round: what its parts leave in the buffer is the method's, from what the calls ensure. Assumes nothing.
 use Rattle.std.proofs.Common.{Err, Ok, Result}
-use Rattle.network.specs.declared.Cause.TheVariants.{Curvature, Product}
-use Rattle.network.specs.Refusals.{Verdict, test_at}
+use Rattle.network.specs.declared.CameraSum.TheVariants.{Curvature, Product}
+use Rattle.network.specs.Refusals.{Verdict}
 use Rattle.network.specs.declared.Refusal.{Refusal}
 use Rattle.iterative.proofs.Refused.{unless-refused}
-use Rattle.std.proofs.Common.{None, Option}
-use mathlib.Core.Path.{ap, sym, ◌∙◌, ◌≡◌}
+use Rattle.std.proofs.Common.{Option}
+use mathlib.Core.Path.{ap, refl, sym, ◌∙◌, ◌≡◌}
 use mathlib.Core.Logic.{inl, inr}
 use mathlib.Core.List.{List}
 use mathlib.Core.Bool.{Bool, false, true}
@@ -26,15 +26,16 @@ use Rattle.operator.specs.Operator.{reduced_by}
 use Rattle.operator.specs.inner.Applied.{reduced_in}
 use Rattle.iterative.proofs.Kept.{kept_same, kept_store, kept_then, other-field, own-field, problem-kept}
 use Rattle.iterative.specs.Method.{State, any, bad_curvature, bad_product, bound_of, component, moved, preconditioned, quotient, redirected, round}
-use Rattle.iterative.specs.Method.{search_field, square_sum, stays_active, stepped_field}
-use Rattle.iterative.specs.Problem.{field_dot}
+use Rattle.iterative.specs.Method.{failed, search_field, square_sum, stays_active, stepped_field, sum_test}
+use Rattle.iterative.specs.Problem.{field_dot, first_not_finite}
 use Rattle.iterative.specs.declared.Active.{Active}
 use Rattle.iterative.specs.declared.Frame.{Frame}
+use Rattle.iterative.specs.declared.dot.Dot.{Dot}
 use Rattle.iterative.specs.declared.Round.{Round}
 use Rattle.std.specs.declared.ops.ControlFlow.TheVariants.{Break, Continue}
 use Rattle.iterative.specs.inner.Solver.{Step}
 use Rattle.iterative.specs.inner.Solver.{FieldStepped, FieldsFit, MovedAlong, Preconditioned, Ran, Rounded, SystemKept}
-use Rattle.iterative.specs.inner.Solver.{continued_by, frame_of, problem_in, redirected_by, reduced_system, right_sums}
+use Rattle.iterative.specs.inner.Solver.{continued_by, dot_camera_in, frame_of, problem_in, redirected_by, reduced_system, right_sums}
 use Rattle.iterative.specs.inner.Solver.{stepped_by}
 
 module _ (f : Frame) (l : List Float) (R : FieldsFit f.shape (length l)) where
@@ -65,27 +66,40 @@ module _ (f : Frame) (l : List Float) (R : FieldsFit f.shape (length l)) where
     kept-z : SystemKept s l l1
     kept-z = kept_store s l _ z l1 stored-z size-z (omega arith) (omega arith) (inr (omega arith))
 
-    pub redirect-failed : (p : Option ℕ) {v : Verdict} {q : Refusal} → p ≡ component (bad_product r.active r.old new) → v ≡ test_at Product p → v ≡ Err q →
-        Ran s (redirected_by f l r) l l1 (Err q)
-    redirect-failed p e t h = record { run = λ op. rw (← new_is, ← e) (sym (unless-refused p Product _ t h)); kept = kept-z }
+    at-z : load vector l1 (preconditioned_at s) n ≡ z
+    at-z = own-field n l _ z l1 stored-z size-z (omega (arith, R.room))
 
-    pub redirect-running : (p : Option ℕ) (beta : Vec3) (into : ℕ) (l2 : List Float) → p ≡ component (bad_product r.active r.old new) → p ≡ None → into ≡ search_at s →
+    at-residual : load vector l1 (residual_at s) n ≡ load vector l (residual_at s) n
+    at-residual = other-field n l _ z l1 (residual_at s) stored-z size-z (inr (omega arith))
+
+    -- the product's sum as its fields stand there
+    abbrev dot : Dot
+    dot = record { cameras = n; anchor = a; first = from; second = at }
+
+    camera-is : dot_camera_in dot l1 ≡ first_not_finite n a (load vector l (residual_at s) n) z
+    camera-is = rw (ef, ea, at-residual, at-z) refl
+
+    pub redirect-failed : (p : Option ℕ) {v : Verdict} {q : Refusal} → p ≡ component (bad_product r.active r.old new) → v ≡ sum_test Product p (dot_camera_in dot l1) → v ≡ Err q →
+        Ran s (redirected_by f l r) l l1 (Err q)
+    redirect-failed p e t h = record { run = λ op. rw (← new_is, ← e, ← camera-is) (sym (unless-refused failed _ t h)); kept = kept-z }
+
+    pub redirect-running : (p : Option ℕ) {v : Verdict} (beta : Vec3) (into : ℕ) (l2 : List Float) → p ≡ component (bad_product r.active r.old new) →
+        v ≡ sum_test Product p (dot_camera_in dot l1) → v ≡ Ok tt → into ≡ search_at s →
         beta ≡ quotient new r.old →
         l2 ≡ store vector l1 into (search_field n r.active beta (load vector l1 at n) (load vector l1 into n)) →
         Ran s (redirected_by f l r) l l2 (Ok (Continue (record { old = new; active = r.active; count = r.count })))
     unfolding redirected
-    redirect-running p beta into l2 e' h ei eb e4 =
+    redirect-running p beta into l2 e' t h ei eb e4 =
         let q = search_field n r.active beta (load vector l1 (preconditioned_at s) n) (load vector l1 (search_at s) n) in
         let size-q : length q ≡ n = length-field n _ in
         let stored : l2 ≡ store vector l1 (search_at s) q = rw (ea, ei) at e4 in
-        let at-z : load vector l1 (preconditioned_at s) n ≡ z = own-field n l _ z l1 stored-z size-z (omega (arith, R.room)) in
         let e : load vector l2 (search_at s) n ≡ q = own-field n l1 _ q l2 stored size-q (omega (arith, R.room, kept-z.outside.size)) in
         let f : load vector l1 (search_at s) n ≡ load vector l (search_at s) n = other-field n l _ z l1 (search_at s) stored-z size-z (inl (omega arith)) in
         let x : load vector l2 (positions_at s) n ≡ load vector l (positions_at s) n = other-field n l1 _ q l2 (positions_at s) stored size-q (inr (omega arith))
         ∙ other-field n l _ z l1 (positions_at s) stored-z size-z (inr (omega arith)) in
         let y : load vector l2 (residual_at s) n ≡ load vector l (residual_at s) n = other-field n l1 _ q l2 (residual_at s) stored size-q (inr (omega arith))
-        ∙ other-field n l _ z l1 (residual_at s) stored-z size-z (inr (omega arith)) in
-        let w : component (bad_product r.active r.old new) ≡ None = sym e' ∙ h in
+        ∙ at-residual in
+        let w : sum_test Product (component (bad_product r.active r.old new)) (first_not_finite n a (load vector l (residual_at s) n) z) ≡ Ok tt = rw (← e', ← camera-is) (sym t ∙ h) in
         record {
           run = λ op. rw (← new_is, w, x, y, e, at-z, f, eb);
           kept = kept_then kept-z (kept_store s l1 _ q l2 stored size-q (omega arith) (omega arith) (inr (omega arith)));
@@ -134,12 +148,21 @@ module _ (f : Frame) (l : List Float) (R : FieldsFit f.shape (length l)) where
     curvature-is : curvature ≡ field_dot n a (load vector l (search_at s) n) (load vector l (applied_at s) n)
     curvature-is = rw (ep, eq) at e0
 
-    pub step-failed : {v : Verdict} {q : Refusal} → v ≡ test_at Curvature place → v ≡ Err q → Ran s (stepped_by f l r) l l (Err q)
-    step-failed t h = record { run = λ op. rw (← curvature-is, ← ec) (sym (unless-refused place Curvature _ t h)); kept = kept_same s l }
+    -- the curvature's sum as its fields stand there
+    abbrev product : Dot
+    product = record { cameras = n; anchor = a; first = p; second = q }
 
-    pub step-done : (l1 l2 : List Float) (t : Round) (x : Result Step Refusal) → place ≡ None → MovedAlong f r curvature l l1 t → Ran s (continued_by f l1 t) l1 l2 x → Ran s (stepped_by f l r) l l2 x
-    step-done l1 l2 t x h M C =
-        let w : component (bad_curvature r.active r.old curvature) ≡ None = sym ec ∙ h in
+    fields-are : dot_camera_in product l ≡ first_not_finite n a (load vector l (search_at s) n) (load vector l (applied_at s) n)
+    fields-are = rw (ep, eq) refl
+
+    pub step-failed : {v : Verdict} {q : Refusal} → v ≡ sum_test Curvature place (dot_camera_in product l) → v ≡ Err q → Ran s (stepped_by f l r) l l (Err q)
+    step-failed t h = record { run = λ op. rw (← curvature-is, ← ec, ← fields-are) (sym (unless-refused failed _ t h)); kept = kept_same s l }
+
+    pub step-done : {v : Verdict} (l1 l2 : List Float) (t : Round) (x : Result Step Refusal) → v ≡ sum_test Curvature place (dot_camera_in product l) → v ≡ Ok tt →
+        MovedAlong f r curvature l l1 t → Ran s (continued_by f l1 t) l1 l2 x → Ran s (stepped_by f l r) l l2 x
+    step-done l1 l2 t x h k M C =
+        let w : sum_test Curvature (component (bad_curvature r.active r.old curvature))
+        (first_not_finite n a (load vector l (search_at s) n) (load vector l (applied_at s) n)) ≡ Ok tt = rw (← ec, ← fields-are) (sym h ∙ k) in
         record {
           run = λ op. C.run op ∙ rw (problem-kept s a l l1 op M.kept, ap (λ (v : State). any v.round.active) (M.state op), M.state op, ← curvature-is, w);
           kept = kept_then M.kept C.kept;

@@ -1,7 +1,6 @@
 -- What holds after k rounds of the method. Assumes nothing.
-use Rattle.network.specs.declared.Cause.{Cause}
-use Rattle.network.specs.declared.Cause.TheVariants.{Curvature, Product}
-use Rattle.std.proofs.Common.{None, Option, Some}
+use Rattle.std.proofs.Common.{Err, Ok}
+use Rattle.network.specs.Refusals.{Verdict}
 use mathlib.Core.Path.{◌≡◌, refl, ap, ◌∙◌}
 use mathlib.Core.Bool.{Bool, true, false, cond}
 use mathlib.Core.List.{List}
@@ -12,10 +11,9 @@ use borrow.Author.Tests.{eq-eqb}
 use lib.ListN.{length}
 use Rattle.field.specs.declared.Vec3.{Vec3}
 use Rattle.field.specs.Vec.{at, origin}
-use Rattle.field.specs.Count.{lowest}
 use Rattle.field.proofs.Counting.{length-field, get_or-field, upto-invariant}
 use Rattle.iterative.specs.Problem.{Problem, Regular}
-use Rattle.iterative.specs.Method.{State, Run, running, ended, failed, component, any, bad_curvature, bad_product, unless, inner, zero_entry, stepped_entry, precondition, start, bad_diagonal, opened}
+use Rattle.iterative.specs.Method.{State, Run, running, ended, failed, any, unless, inner, zero_entry, stepped_entry, precondition, start, opened}
 use Rattle.iterative.specs.Method.{moved, redirected, continued, round, next, rounds}
 
 -- each field has n entries, and the anchor stays at zero
@@ -73,15 +71,15 @@ module _ (P : Problem) (S : Regular P) where
   unfolding redirected
   redirected-running k s z new g = record { kept = redirected-kept s z new g.kept; count = g.count; active = g.active }
 
-  unless-reached : (k : ℕ) (p : Option ℕ) (n : Cause) (r : Run) → Reached P k r → Reached P k (unless p n r)
-  unless-reached k (Some i) n r h = tt
-  unless-reached k None n r h = h
+  unless-reached : (k : ℕ) (v : Verdict) (r : Run) → Reached P k r → Reached P k (unless failed v r)
+  unless-reached k (Err q) r h = tt
+  unless-reached k (Ok u) r h = h
 
   continued-reached : (k : ℕ) (s : State) (b : Bool) → any s.round.active ≡ b → Shaped P s → s.round.count ≡ k → Reached P k (continued P b s)
   continued-reached k s true e q c =
       let z = precondition P s.residual in
       let new = inner P s.residual z in
-      unless-reached k (component (bad_product s.round.active s.round.old new)) Product (running (redirected P s z new))
+      unless-reached k _ (running (redirected P s z new))
       (redirected-running k s z new (record { kept = q; count = c; active = e }))
   continued-reached k s false e q c = record { kept = q; count = omega arith; done = e }
 
@@ -91,7 +89,7 @@ module _ (P : Problem) (S : Regular P) where
       let w = P.operator s.search in
       let c = inner P s.search w in
       let t = moved P s w c in
-      unless-reached (suc k) (component (bad_curvature s.round.active s.round.old c)) Curvature (continued P (any t.round.active) t)
+      unless-reached (suc k) _ (continued P (any t.round.active) t)
       (continued-reached (suc k) t (any t.round.active) refl (moved-kept s w c g.kept) (moved-count s w c ∙ rw add-one (ap suc g.count)))
 
   next-reached : (k : ℕ) (r : Run) → Reached P k r → Reached P (suc k) (next P r)
@@ -99,10 +97,10 @@ module _ (P : Problem) (S : Regular P) where
   next-reached k (ended s) e = record { kept = e.kept; count = omega arith; done = e.done }
   next-reached k (failed r) t = tt
 
-  opened-reached : (p : Option ℕ) → Reached P 0 (opened P p)
+  opened-reached : (v : Verdict) → Reached P 0 (opened P v)
   unfolding start
-  opened-reached (Some i) = tt
-  opened-reached None = go (any (start P).round.active) refl
+  opened-reached (Err q) = tt
+  opened-reached (Ok u) = go (any (start P).round.active) refl
     where
       go : (b : Bool) → any (start P).round.active ≡ b → Reached P 0 (cond b (running (start P)) (ended (start P)))
       go true e = record { kept = start-kept; count = refl; active = e }
@@ -110,4 +108,4 @@ module _ (P : Problem) (S : Regular P) where
 
   pub rounds-reached : (k : ℕ) → Reached P k (rounds P k)
   unfolding rounds
-  rounds-reached k = upto-invariant (Reached P) (λ (_ : ℕ). next P) k _ (λ i r l. next-reached i r) (opened-reached (lowest (bad_diagonal P.anchor P.diagonal) P.cameras))
+  rounds-reached k = upto-invariant (Reached P) (λ (_ : ℕ). next P) k _ (λ i r l. next-reached i r) (opened-reached _)

@@ -1,5 +1,4 @@
 -- The rounds one after another, from what the calls ensure. Assumes nothing.
-use Rattle.std.proofs.Common.{None, Option, Some}
 use mathlib.Core.Path.{ap, refl, subst, sym, ◌∙◌, ◌≡◌}
 use mathlib.Core.List.{List}
 use mathlib.Core.Bool.{Bool, false, true}
@@ -13,11 +12,10 @@ use Rattle.network.specs.Network.{Links}
 use Rattle.network.specs.declared.Shape.{Shape}
 use Rattle.field.specs.declared.Vec3.{Vec3}
 use Rattle.iterative.proofs.Kept.{kept_same, kept_then, problem-in-kept}
-use Rattle.iterative.specs.Method.{Run, State, any, bad_curvature, bound_of, bad_product, component, continued, ended, failed, inner, moved, next, precondition, redirected, round, running, unless}
+use Rattle.iterative.specs.Method.{Run, State, any, bound_of, continued, ended, failed, inner, moved, next, precondition, redirected, round, running, unless}
 use Rattle.iterative.specs.Problem.{Problem, most_rounds}
 use Rattle.std.proofs.Common.{Err, Ok, Result}
-use Rattle.network.specs.declared.Cause.{Cause}
-use Rattle.network.specs.declared.Cause.TheVariants.{Curvature, Product}
+use Rattle.network.specs.Refusals.{Verdict}
 use Rattle.network.specs.declared.Refusal.{Refusal}
 use Rattle.iterative.specs.declared.Frame.{Frame}
 use Rattle.iterative.specs.declared.Round.{Round}
@@ -32,10 +30,10 @@ count_of (running s) d = s.round.count
 count_of (ended s) d = d
 count_of (failed r) d = d
 
-count_unless : (p : Option ℕ) (k : Cause) (x : Run) (d : ℕ) → count_of x d ≡ d → count_of (unless p k x) d ≡ d
+count_unless : (v : Verdict) (x : Run) (d : ℕ) → count_of x d ≡ d → count_of (unless failed v x) d ≡ d
 unfolding count_of
-count_unless (Some i) k x d h = refl
-count_unless None k x d h = h
+count_unless (Err q) x d h = refl
+count_unless (Ok u) x d h = h
 
 module _ (P : Problem) where
   count-continued : (b : Bool) (s : State) → count_of (continued P b s) s.round.count ≡ s.round.count
@@ -43,7 +41,7 @@ module _ (P : Problem) where
   count-continued true s =
       let z = precondition P s.residual in
       let new = inner P s.residual z in
-      count_unless (component (bad_product s.round.active s.round.old new)) Product (running (redirected P s z new)) s.round.count refl
+      count_unless _ (running (redirected P s z new)) s.round.count refl
   count-continued false s = refl
 
   count-round : (s : State) → count_of (round P s) (s.round.count + 1) ≡ s.round.count + 1
@@ -51,7 +49,7 @@ module _ (P : Problem) where
   count-round s =
       let curvature = inner P s.search (P.operator s.search) in
       let t = moved P s (P.operator s.search) curvature in
-      count_unless (component (bad_curvature s.round.active s.round.old curvature)) Curvature (continued P (any t.round.active) t) (s.round.count + 1)
+      count_unless _ (continued P (any t.round.active) t) (s.round.count + 1)
       (count-continued (any t.round.active) t)
 
   counted : (s t : State) → round P s ≡ running t → t.round.count ≡ s.round.count + 1

@@ -1,10 +1,12 @@
 -- The start, the end, and the whole solve, from what the calls ensure. Assumes nothing.
 use Rattle.std.proofs.Common.{Err, Ok, Result}
-use Rattle.network.specs.declared.Cause.TheVariants.{Diagonal, Residual}
+use Rattle.network.specs.declared.CameraSum.TheVariants.{Residual}
+use Rattle.network.specs.declared.Cause.TheVariants.{Diagonal}
 use Rattle.network.specs.Refusals.{Verdict, test_at}
 use Rattle.network.specs.declared.Refusal.{Refusal}
-use Rattle.iterative.proofs.Refused.{tested-refused, opened-refused}
-use Rattle.std.proofs.Common.{None, Option, Some}
+use Rattle.network.proofs.Verdicts.{passed-test-at}
+use Rattle.iterative.proofs.Refused.{unless-passed, unless-refused}
+use Rattle.std.proofs.Common.{None, Option}
 use mathlib.Core.Path.{ap, refl, subst, sym, ◌∙◌, ◌≡◌}
 use mathlib.Core.Logic.{◌⊎◌, inl, inr}
 use mathlib.Core.Bool.{Bool}
@@ -30,18 +32,19 @@ use Rattle.operator.specs.inner.Applied.{reduced_in}
 use Rattle.iterative.proofs.Kept.{kept_store, kept_then, other-field, outside-same, outside-then, own-field, problem-in-kept}
 use Rattle.iterative.proofs.Opening.{opened-fields, opened-outside}
 use Rattle.iterative.proofs.Running.{rounds-over}
-use Rattle.iterative.specs.Method.{Run, State, accepted, accepted_unless, allowed, allowed_of, bad_diagonal, bad_residual, bound_of, closed, component, difference, ended, failed}
+use Rattle.iterative.specs.Method.{Run, State, accepted, allowed_of, bad_diagonal, bad_residual, bound_of, closed, component, difference, ended, failed, sum_test, unless}
 use Rattle.iterative.specs.Method.{opened, refused, residual_of, rounds, solution, square_sum, start, starts_active}
 use Rattle.iterative.specs.Opening.{Each, Opened, segments_of}
-use Rattle.iterative.specs.Problem.{Problem, field_dot, most_rounds}
+use Rattle.iterative.specs.Problem.{Problem, most_rounds}
 use Rattle.iterative.specs.Reduced.{problem, problem_by, right_of}
 use Rattle.iterative.specs.declared.Active.{Active}
 use Rattle.iterative.specs.declared.Frame.{Frame}
+use Rattle.iterative.specs.declared.dot.Dot.{Dot}
 use Rattle.iterative.specs.declared.Round.{Round}
 use Rattle.std.specs.declared.ops.ControlFlow.TheVariants.{Break, Continue}
 use Rattle.iterative.specs.inner.Solver.{Step}
 use Rattle.iterative.specs.inner.Solver.{Concluded, Iterated, IterativeSolved, Outside, Settled, Started, Tested, answer_of, begun}
-use Rattle.iterative.specs.inner.Solver.{frame_of, problem_in, reduced_system, right_sums, rounds_from, run_in, state_in}
+use Rattle.iterative.specs.inner.Solver.{dot_camera_in, dot_in, frame_of, problem_in, reduced_system, right_sums, rounds_from, run_in, state_in}
 
 -- ---- the start
 
@@ -66,20 +69,18 @@ module _ (f : Frame) (l l1 : List Float) (v : Vec3) (r : Round) (room : matrix_a
 -- ---- the end
 
 -- z and b are the shape and the anchor as they were read
-pub settled : (L : Links) (z : Shape) (a b p q r : ℕ) (l l1 l2 : List Float) (v : Vec3) → z ≡ L.shape → b ≡ a → matrix_at L.shape ≤ length l →
+pub settled : (L : Links) (z : Shape) (a b p q r : ℕ) (l l1 l2 : List Float) → z ≡ L.shape → b ≡ a → matrix_at L.shape ≤ length l →
     p ≡ positions_at z → q ≡ applied_at z → r ≡ right_at z →
     l1 ≡ reduced_in L a p q l →
     l2 ≡ store vector l1 q (difference z.cameras (load vector l1 q z.cameras) (load vector l1 r z.cameras)) →
-    v ≡ field_dot z.cameras b (load vector l2 q z.cameras) (load vector l2 q z.cameras) →
-    Settled L.shape (problem_in L a l) l l2 v
+    Settled L.shape (problem_in L a l) l l2 (record { cameras = z.cameras; anchor = b; first = q; second = q })
 unfolding residual_of
-settled L z a b p q r l l1 l2 v ez eb room ep eq er f1 f2 f3 =
+settled L z a b p q r l l1 l2 ez eb room ep eq er f1 f2 =
     let s = L.shape in
     let n = s.cameras in
     let w = reduced_by L (weights_in s l) a (load vector l (positions_at s) n) in
     let e1 : l1 ≡ store vector l (applied_at s) w = rw (ep, eq, ez) at f1 in
     let e2 : l2 ≡ store vector l1 (applied_at s) (difference n (load vector l1 (applied_at s) n) (load vector l1 (right_at s) n)) = rw (eq, er, ez) at f2 in
-    let e : v ≡ field_dot n a (load vector l2 (applied_at s) n) (load vector l2 (applied_at s) n) = rw (eq, ez, eb) at f3 in
     let s1 : length w ≡ n = by_length L _ a _ in
     let s2 : length (difference n (load vector l1 (applied_at s) n) (load vector l1 (right_at s) n)) ≡ n = length-field n _ in
     let to = kept_store s l _ _ l1 e1 s1 (omega arith) (omega arith) (inr (omega arith)) in
@@ -87,7 +88,9 @@ settled L z a b p q r l l1 l2 v ez eb room ep eq er f1 f2 f3 =
     let g : load vector l2 (applied_at s) n ≡ difference n (load vector l1 (applied_at s) n) (load vector l1 (right_at s) n) = own-field n l1 _ _ l2 e2 s2 (omega (arith, to.outside.size)) in
     let k = kept_store s l1 _ _ l2 e2 s2 (omega arith) (omega arith) (inr (omega arith)) in
     record {
-      residual = e ∙ rw (g, f, to.right);
+      fits = rw (eq, ez) (omega (arith, k.outside.size, to.outside.size), omega (arith, k.outside.size, to.outside.size));
+      sum = rw (eq, ez, eb, g, f, to.right) refl;
+      camera = rw (eq, ez, eb, g, f, to.right) refl;
       kept = record {
         kept = kept_then to k;
         positions = other-field n l1 _ _ l2 (positions_at s) e2 s2 (inr (omega arith)) ∙ other-field n l _ _ l1 (positions_at s) e1 s1 (inr (omega arith));
@@ -95,17 +98,18 @@ settled L z a b p q r l l1 l2 v ez eb room ep eq er f1 f2 f3 =
     }
 
 -- the final test: the square sums are the method's
-pub tested-done : (L : Links) (a : ℕ) (l l' : List Float) (sums bound v : Vec3) (r : Option ℕ) → let s = L.shape in let P = problem_in L a l in
-    sums ≡ right_sums (frame_of (reduced_system L a)) l → bound ≡ allowed_of sums → Settled s P l l' v → r ≡ component (bad_residual bound v) → Tested s P l l' r
+pub tested-done : (L : Links) (a : ℕ) (l l' : List Float) (sums bound v : Vec3) (d : Dot) (p : Option ℕ) (r : Verdict) → let s = L.shape in let P = problem_in L a l in
+    sums ≡ right_sums (frame_of (reduced_system L a)) l → Settled s P l l' d → bound ≡ allowed_of sums → v ≡ dot_in d l' → p ≡ component (bad_residual bound v) →
+    r ≡ sum_test Residual p (dot_camera_in d l') → Tested s P l l' r
 unfolding square_sum
-tested-done L a l l' sums bound v r e f S g = record { place = g ∙ rw (f, e, S.residual); kept = S.kept }
+tested-done L a l l' sums bound v d p r e S f k g t = record { value = rw (g, f, e, k, S.sum, S.camera) at t; kept = S.kept }
 
-module _ (s : Shape) (P : Problem) (l l' : List Float) (p : Option ℕ) (r : Round) (T : Tested s P l l' p) where
-  pub judged-failed : {v : Verdict} {q : Refusal} → v ≡ test_at Residual p → v ≡ Err q → Concluded s P (ended (state_in s l r)) l l' (Err q)
-  judged-failed t h = record { answer = rw (← T.place) (sym (ap answer_of (tested-refused p (state_in s l r) t h))); kept = T.kept }
+module _ (s : Shape) (P : Problem) (l l' : List Float) (v : Verdict) (r : Round) (T : Tested s P l l' v) where
+  pub judged-failed : {q : Refusal} → v ≡ Err q → Concluded s P (ended (state_in s l r)) l l' (Err q)
+  judged-failed h = record { answer = sym (ap answer_of (unless-refused refused (accepted (state_in s l r)) T.value h)); kept = T.kept }
 
-  pub judged-placed : p ≡ None → Concluded s P (ended (state_in s l r)) l l' (Ok r.count)
-  judged-placed e = let q : component (bad_residual (allowed P) (residual_of P (positions_in s l))) ≡ None = sym T.place ∙ e in record { answer = rw q; kept = T.kept }
+  pub judged-placed : v ≡ Ok tt → Concluded s P (ended (state_in s l r)) l l' (Ok r.count)
+  judged-placed h = record { answer = sym (ap answer_of (unless-passed refused (accepted (state_in s l r)) T.value h)); kept = T.kept }
 
 -- the ways in which the rounds leave a run
 module _ (s : Shape) (P : Problem) (l : List Float) (x : Step) where
@@ -115,14 +119,14 @@ module _ (s : Shape) (P : Problem) (l : List Float) (x : Step) where
 
 -- ---- the whole solve
 
-accepted-positions : (p : Option ℕ) (t s : State) → accepted_unless p t ≡ accepted s → t.positions ≡ s.positions
-accepted-positions (Some i) t s e = let z : ◌≡◌ {A = ℕ} 0 1 = cc in absurd (omega arith)
-accepted-positions None t s e = let q : t ≡ s = cc in ap (λ (v : State). v.positions) q
+accepted-positions : (v : Verdict) (t s : State) → unless refused v (accepted t) ≡ accepted s → t.positions ≡ s.positions
+accepted-positions (Err q) t s e = let z : ◌≡◌ {A = ℕ} 0 1 = cc in absurd (omega arith)
+accepted-positions (Ok u) t s e = let q : t ≡ s = cc in ap (λ (v : State). v.positions) q
 
 closed-positions : (P : Problem) (s : Shape) (l : List Float) (x : Result Step Refusal) (t : State) → closed P (run_in s l x) ≡ accepted t → positions_in s l ≡ t.positions
 closed-positions P s l (Err r) t e = let z : ◌≡◌ {A = ℕ} 0 1 = cc in absurd (omega arith)
-closed-positions P s l (Ok (Continue r)) t e = accepted-positions (component (bad_residual (allowed P) (residual_of P (positions_in s l)))) (state_in s l r) t e
-closed-positions P s l (Ok (Break r)) t e = accepted-positions (component (bad_residual (allowed P) (residual_of P (positions_in s l)))) (state_in s l r) t e
+closed-positions P s l (Ok (Continue r)) t e = accepted-positions _ (state_in s l r) t e
+closed-positions P s l (Ok (Break r)) t e = accepted-positions _ (state_in s l r) t e
 
 module _ (L : Links) (a : ℕ) (l : List Float) where
   abbrev s : Shape
@@ -137,15 +141,15 @@ module _ (L : Links) (a : ℕ) (l : List Float) where
   abbrev own : Problem
   own = problem_by L (weights_in s l) (load term l 0 n) a
 
-  -- the place that the search for a bad diagonal finds is the method's
-  found-is : (p : Option ℕ) → lowest (bad_diagonal a (diagonal_of (load term l 0 n))) n ≡ p → solution own ≡ closed own (rounds_from own (most_rounds n) (opened own p))
+  -- what the search for a bad diagonal says is the method's
+  found-is : (v : Verdict) → v ≡ test_at Diagonal (lowest (bad_diagonal a (diagonal_of (load term l 0 n))) n) → solution own ≡ closed own (rounds_from own (most_rounds n) (opened own v))
   unfolding solution rounds rounds_from problem_by
-  found-is p e = rw (← e)
+  found-is v e = rw e
 
   pub solved-bad : (p : Option ℕ) {v : Verdict} {z : Refusal} → p ≡ lowest (bad_diagonal a (diagonal_of (load term l 0 n))) n → v ≡ test_at Diagonal p → v ≡ Err z →
       IterativeSolved s own l l (Err z)
   solved-bad p {z = z} e t h =
-      let q : solution own ≡ refused z = found-is p (sym e) ∙ rw (opened-refused own p t h, rounds-over own (most_rounds n) (failed z) refl) in
+      let q : solution own ≡ refused z = found-is (Err z) (sym h ∙ t ∙ ap (test_at Diagonal) e) ∙ ap (closed own) (rounds-over own (most_rounds n) (failed z) refl) in
       record {
         answer = sym (ap answer_of q);
         positions = λ t u. let z : ◌≡◌ {A = ℕ} 0 1 = cc (q, u) in absurd (omega arith);
@@ -185,7 +189,7 @@ module _ (L : Links) (a : ℕ) (l : List Float) where
       own-rounds = subst (λ (Q : Problem). Iterated s Q (begun (state_in s l1 first)) l1 l2 y) started-problem I0
 
       solution-is : solution own ≡ closed own (run_in s l2 y)
-      solution-is = found-is None bad ∙ sym (ap (closed own) (own-rounds.run ∙ ap (rounds_from own (most_rounds n)) (ap begun started-state)))
+      solution-is = found-is (Ok tt) (sym (passed-test-at Diagonal bad)) ∙ sym (ap (closed own) (own-rounds.run ∙ ap (rounds_from own (most_rounds n)) (ap begun started-state)))
 
       rounds-outside : Outside s l l2
       rounds-outside = outside-then (started-outside frame l l1 sums first room S) own-rounds.kept.outside

@@ -3,4 +3,5 @@ pub mod Method
 pub mod Reduced
 pub mod Opening
 pub mod Accepted
+pub mod CameraSums
 pub mod inner

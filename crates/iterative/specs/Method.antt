@@ -6,7 +6,7 @@
 --     w = A p, α = ρ / p·w, x = x + α p, r = r - α w                              `moved`
 --     z = M⁻¹ r, β = (r·z) / ρ, p = z + β p, ρ = r·z, while r·r is above a bound  `redirected`
 -- Here x is `positions`, b `right`, r `residual`, z `preconditioned`, p `search`, w `applied`, ρ `old` and then `new`, and p·w is the curvature.
-use Rattle.std.specs.Prelude.{None, Option, Some}
+use Rattle.std.specs.Prelude.{Err, None, Ok, Option, Some}
 use Rattle.std.specs.Prelude.{List, Bool, cond, false, not, true, ◌&&◌, ◌||◌, suc, zero, ℕ, ◌+◌, eqb, Float}
 use Rattle.std.specs.Float.Ieee.{add, div, le, lt, mul, of_bits, sub}
 use Rattle.std.specs.Float.{binary64}
@@ -17,10 +17,13 @@ use Rattle.field.specs.declared.Vec3.{Vec3}
 use Rattle.double.specs.Double.{greater, magnitude}
 use Rattle.sqrt.specs.Root.{root}
 use Rattle.system.specs.System.{tiny}
-use Rattle.iterative.specs.Problem.{Problem, field_dot, most_rounds}
-use Rattle.network.specs.declared.Cause.{Cause}
-use Rattle.network.specs.declared.Cause.TheVariants.{Curvature, Diagonal, Product, Residual}
+use Rattle.iterative.specs.Problem.{Problem, field_dot, first_not_finite, most_rounds}
+use Rattle.network.specs.declared.CameraSum.{CameraSum}
+use Rattle.network.specs.declared.CameraSum.TheVariants.{Curvature, Product, Residual}
+use Rattle.network.specs.declared.Cause.TheVariants.{Diagonal}
 use Rattle.network.specs.declared.Refusal.{Refusal}
+use Rattle.network.specs.declared.Refusal.TheVariants.{Sum}
+use Rattle.network.specs.Refusals.{Verdict, test_at}
 use Rattle.iterative.specs.declared.Active.{Active}
 use Rattle.iterative.specs.declared.Round.{Round}
 
@@ -143,6 +146,19 @@ difference n f g = field n (difference_entry f g)
 unfoldable pub bad_diagonal : ℕ → (ℕ → Float) → ℕ → Bool
 bad_diagonal a d i = not (eqb i a) && not (finite (d i))
 
+-- ---- tests that refuse
+
+-- 11 to 13: refused for a sum at a component, where there is one, with that component's camera. Whether it refuses goes by the component alone, so
+-- which calls are refused does not depend on the camera.
+unfoldable pub sum_test : CameraSum → Option ℕ → (Axis → ℕ) → Verdict
+sum_test s (Some i) camera = Err (Sum s i (camera (axis i)))
+sum_test s None camera = Ok tt
+
+-- x, unless a test refuses: then what f makes of the refusal
+abbrev pub unless : {A : Type 0} → (Refusal → A) → Verdict → A → A
+unless f (Err r) x = f r
+unless f (Ok u) x = x
+
 -- ---- what the method carries from round to round
 
 pub record State : Type 0 where
@@ -157,25 +173,19 @@ pub data Run : Type 0 where
   ended : State → Run
   failed : Refusal → Run
 
--- refused for k at a place, where there is one
-abbrev pub unless : Option ℕ → Cause → Run → Run
-unless (Some i) k r = failed (record { cause = k; place = i })
-unless None k r = r
-
 -- how the whole method ends
 pub data Ending : Type 0 where
   accepted : State → Ending
   refused : Refusal → Ending
 
--- 13 at a component, where there is one
-abbrev pub accepted_unless : Option ℕ → State → Ending
-accepted_unless (Some i) s = refused (record { cause = Residual; place = i })
-accepted_unless None s = accepted s
-
 module _ (P : Problem) where
   -- the sum over all cameras but the anchor
   abbrev pub inner : List Vec3 → List Vec3 → Vec3
   inner f g = field_dot P.cameras P.anchor f g
+
+  -- the first camera at which a component of that sum is not finite, or n
+  abbrev pub inner_camera : List Vec3 → List Vec3 → Axis → ℕ
+  inner_camera f g = first_not_finite P.cameras P.anchor f g
 
   abbrev pub precondition : List Vec3 → List Vec3
   precondition r = preconditioned P.cameras P.anchor P.diagonal r
@@ -201,9 +211,8 @@ module _ (P : Problem) where
         round = record { old = inner P.right z; active = starts_active bound square_sum; count = 0 };
       }
 
-  abbrev pub opened : Option ℕ → Run
-  opened (Some i) = failed (record { cause = Diagonal; place = i })
-  opened None = cond (any start.round.active) (running start) (ended start)
+  abbrev pub opened : Verdict → Run
+  opened v = unless failed v (cond (any start.round.active) (running start) (ended start))
 
   -- ---- one round
 
@@ -237,7 +246,7 @@ module _ (P : Problem) where
   redirect s =
       let z = precondition s.residual in
       let new = inner s.residual z in
-      unless (component (bad_product s.round.active s.round.old new)) Product (running (redirected s z new))
+      unless failed (sum_test Product (component (bad_product s.round.active s.round.old new)) (inner_camera s.residual z)) (running (redirected s z new))
 
   -- on with a new search vector where a component is still active
   abbrev pub continued : Bool → State → Run
@@ -248,7 +257,7 @@ module _ (P : Problem) where
   step s applied =
       let curvature = inner s.search applied in
       let t = moved s applied curvature in
-      unless (component (bad_curvature s.round.active s.round.old curvature)) Curvature (continued (any t.round.active) t)
+      unless failed (sum_test Curvature (component (bad_curvature s.round.active s.round.old curvature)) (inner_camera s.search applied)) (continued (any t.round.active) t)
 
   unfoldable pub round : State → Run
   round s = step s (P.operator s.search)
@@ -262,17 +271,21 @@ module _ (P : Problem) where
 
   -- the run after k rounds at most
   unfoldable pub rounds : ℕ → Run
-  rounds k = upto (λ (_ : ℕ). next) k (opened (lowest (bad_diagonal P.anchor P.diagonal) P.cameras))
+  rounds k = upto (λ (_ : ℕ). next) k (opened (test_at Diagonal (lowest (bad_diagonal P.anchor P.diagonal) P.cameras)))
 
   -- ---- the end: the system applied anew to the positions, and the right side subtracted
 
+  abbrev pub residual_field : List Vec3 → List Vec3
+  residual_field f = difference P.cameras (P.operator f) P.right
+
+  -- for each component the sum of its squares
   unfoldable pub residual_of : List Vec3 → Vec3
-  residual_of f =
-      let d = difference P.cameras (P.operator f) P.right in
-      inner d d
+  residual_of f = inner (residual_field f) (residual_field f)
 
   abbrev pub tested : State → Ending
-  tested s = accepted_unless (component (bad_residual allowed (residual_of s.positions))) s
+  tested s =
+      let d = residual_field s.positions in
+      unless refused (sum_test Residual (component (bad_residual allowed (residual_of s.positions))) (inner_camera d d)) (accepted s)
 
   abbrev pub closed : Run → Ending
   closed (running s) = tested s

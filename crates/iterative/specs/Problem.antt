@@ -1,10 +1,10 @@
 -- A linear system for n cameras, one of which, the anchor, is held at zero: what the method is given.
 -- The unknowns, the right side and each vector of the method are fields: a Vec3 for each camera.
-use Rattle.std.specs.Prelude.{◌≡◌, List, cond, true, max, min, ℕ, ◌*◌, ◌-◌, ◌<◌, eqb, length, Float}
+use Rattle.std.specs.Prelude.{◌≡◌, List, Bool, cond, not, true, max, min, ℕ, ◌+◌, ◌*◌, ◌-◌, ◌<◌, eqb, length, unwrap_or, Float}
 use Rattle.std.specs.Float.{binary64}
 use Rattle.std.specs.Float.Ieee.{mul}
 use Rattle.std.specs.Float.Ieee.Scale.{finite}
-use Rattle.field.specs.Count.{upto}
+use Rattle.field.specs.Count.{lowest, upto}
 use Rattle.field.specs.Vec.{Axis, at, each, on, origin, plus}
 use Rattle.field.specs.declared.Vec3.{Vec3}
 
@@ -30,6 +30,14 @@ dot_step a f g i v = cond (eqb i a) v (plus v (times (at f i) (at g i)))
 -- for each component the sum of the products over all n cameras but the anchor a, from +0.0, in camera order
 unfoldable pub field_dot : ℕ → ℕ → List Vec3 → List Vec3 → Vec3
 field_dot n a f g = upto (dot_step a f g) n origin
+
+-- the running sum of component k is not finite once camera i's products are added
+unfoldable pub not_finite_after : ℕ → List Vec3 → List Vec3 → Axis → ℕ → Bool
+not_finite_after a f g k i = not (finite (on k (field_dot (i + 1) a f g)))
+
+-- 'the first camera at which the running sum stopped being finite, or n if it stayed finite' (document 02, R-2), of component k
+unfoldable pub first_not_finite : ℕ → ℕ → List Vec3 → List Vec3 → Axis → ℕ
+first_not_finite n a f g k = unwrap_or (lowest (not_finite_after a f g k) n) n
 
 -- the most rounds: 8(n - 1) clamped to 64 .. 4000
 unfoldable pub most_rounds : ℕ → ℕ

@@ -7,12 +7,12 @@ ghost use Rattle.iterative.specs.inner.Solver.{FieldsFit, TurnOpened, Started, r
 ghost use Rattle.iterative.specs.inner.Solver.{frame_of, problem_in};
 
 use crate::components::{allowed, bound, find_bad_residual, starts_active};
-use crate::fields::{add_products, field_dot, ridged_diagonal, subtract};
+use crate::dot::{Dot, add_products};
+use crate::fields::{ridged_diagonal, subtract};
 use crate::reduced_system::ReducedSystem;
 use crate::{Frame, Round, Step};
 use field::{Vec3, put3, zero};
-use network::answers::refused_at;
-use network::{Cause, Refusal, Shape};
+use network::{CameraSum, Refusal, Shape};
 use std::ops::ControlFlow::{Break, Continue};
 use system::get_term;
 use system::work::{applied_at, positions_at, preconditioned_at, residual_at, right_at, search_at};
@@ -95,8 +95,8 @@ pub(crate) fn start(frame: Frame, work: &mut [f64]) -> Opening
     }
 }
 
-// The square sums of the residual, worked out afresh from the positions.
-fn residual(t: &ReducedSystem<'_>, work: &mut [f64]) -> Vec3
+// The residual, worked out afresh from the positions, and the sum of its squares, which is still to be made.
+fn residual(t: &ReducedSystem<'_>, work: &mut [f64]) -> Dot
     requires s_in_bounds { matrix_at t.now.links.shape ≤ length work.old }
     ensures { Settled t.now.links.shape (problem_in t.now.links t.now.anchor work.old)
         work.old work.new result }
@@ -105,18 +105,24 @@ fn residual(t: &ReducedSystem<'_>, work: &mut [f64]) -> Vec3
     let at = applied_at(s);
     t.apply(work, positions_at(s), at);
     subtract(s, work, right_at(s), at);
-    field_dot(work, s.cameras, t.anchor(), at, at)
+    Dot {
+        cameras: s.cameras,
+        anchor: t.anchor(),
+        first: at,
+        second: at,
+    }
 }
 
-// The lowest component that fails the final test (13).
-fn finish(t: &ReducedSystem<'_>, work: &mut [f64], sums: Vec3) -> Option<usize>
+// The final test (13).
+fn finish(t: &ReducedSystem<'_>, work: &mut [f64], sums: Vec3) -> Result<(), Refusal>
     requires s_in_bounds { matrix_at t.now.links.shape ≤ length work.old }
     requires sums_value { sums ≡ right_sums (frame_of t.now) work.old }
     ensures { Tested t.now.links.shape (problem_in t.now.links t.now.anchor work.old)
         work.old work.new result }
 {
-    let v = residual(t, work);
-    find_bad_residual(allowed(sums), v)
+    let dot = residual(t, work);
+    let bad = find_bad_residual(allowed(sums), dot.sum(work));
+    dot.refused_at(work, CameraSum::Residual, bad)
 }
 
 // The answer to a run that ended with the record r.
@@ -126,8 +132,7 @@ fn judge(t: &ReducedSystem<'_>, work: &mut [f64], sums: Vec3, r: Round) -> Resul
     ensures { Concluded t.now.links.shape (problem_in t.now.links t.now.anchor work.old)
         (ended (state_in t.now.links.shape work.old r)) work.old work.new result }
 {
-    let place = finish(t, work, sums);
-    refused_at(Cause::Residual, place)?;
+    finish(t, work, sums)?;
     Ok(r.count)
 }
 

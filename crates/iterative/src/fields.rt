@@ -1,18 +1,18 @@
 // Fields of n vectors in the work buffer, one vector for each camera.
 ghost use Rattle.std.specs.Prelude.{◌≡◌, cond, not, ◌&&◌, ◌+◌, ◌*◌, ◌<◌, ◌≤◌, eqb, length};
 ghost use Rattle.std.specs.Float.Ieee.Scale.{finite};
-ghost use Rattle.field.specs.Vec.{origin, minus, over, plus};
+ghost use Rattle.field.specs.Vec.{origin, minus, over};
 ghost use Rattle.field.specs.Count.{field, lowest};
 ghost use Rattle.field.specs.Buffer.{get, put, load, store, vector};
 ghost use Rattle.system.specs.System.{diagonal_of};
 ghost use Rattle.system.specs.Work.{term, term_place};
 ghost use Rattle.operator.specs.inner.Applied.{Ordered};
-ghost use Rattle.iterative.specs.Problem.{times, dot_step, field_dot};
 ghost use Rattle.iterative.specs.Method.{stepped as stepped_of, search_step, search_field, difference, bad_diagonal};
 ghost use Rattle.iterative.specs.inner.Solver.{FieldStepped, FieldsFit, Summed, Preconditioned, diagonal_in};
 ghost use Rattle.iterative.specs.inner.Solver.{Computes, MayMake, Makes};
 
 use crate::components::{search_step, stepped};
+use crate::dot::Dot;
 use crate::{Active, Frame};
 use double::is_finite;
 use field::{Vec3, anchored, get3, put3, zero};
@@ -21,7 +21,7 @@ use system::get_term;
 
 // ---- camera i's vector of the field at p
 
-fn get_vector(work: &[f64], p: usize, i: usize) -> Vec3
+pub(crate) fn get_vector(work: &[f64], p: usize, i: usize) -> Vec3
     requires { p + 3 * i + 3 ≤ length work.now }
     ensures { result ≡ get vector work.now (p + 3 * i) }
 {
@@ -33,43 +33,6 @@ fn put_vector(work: &mut [f64], p: usize, i: usize, v: Vec3)
     ensures { work.new ≡ put vector work.old (p + 3 * i) v }
 {
     put3(work, p + 3 * i, v);
-}
-
-// ---- sums, of fields of n vectors with an anchor: from a `Frame` each place in their contracts would be longer
-
-// The products on each axis added to a sum.
-pub(crate) fn add_products(sum: Vec3, a: Vec3, b: Vec3) -> Vec3
-    ensures { result ≡ plus sum (times a b) }
-{
-    Vec3 {
-        x: sum.x + a.x * b.x,
-        y: sum.y + a.y * b.y,
-        z: sum.z + a.z * b.z,
-    }
-}
-
-// The sum of a dot once camera i's products are added: as it was at the anchor. Nothing is read there, so that no choice stands between two sums.
-fn dot_step(work: &[f64], n: usize, anchor: usize, p: usize, q: usize, i: usize, sum: Vec3) -> Vec3
-    requires { (p + 3 * n ≤ length work.now) × (q + 3 * n ≤ length work.now) × (i < n) }
-    ensures { result ≡ dot_step anchor (load vector work.now p n) (load vector work.now q n) i sum }
-{
-    if i == anchor {
-        return sum;
-    }
-    add_products(sum, get_vector(work, p, i), get_vector(work, q, i))
-}
-
-// For each component the sum of the products of the fields at p and q, over all cameras but the anchor: the Rust's `component_dot`.
-pub(crate) fn field_dot(work: &[f64], n: usize, anchor: usize, p: usize, q: usize) -> Vec3
-    requires { (p + 3 * n ≤ length work.now) × (q + 3 * n ≤ length work.now) }
-    ensures { result ≡ field_dot n anchor (load vector work.now p n) (load vector work.now q n) }
-{
-    let mut sum = zero();
-    // Kept: it fills nothing, and a pass that takes the turn as a closure has a contract longer than this loop.
-    for i in 0..n {
-        sum = dot_step(work, n, anchor, p, q, i, sum);
-    }
-    sum
 }
 
 // ---- the diagonal
@@ -127,11 +90,17 @@ fn fill_summed<F: Fn(&[f64], usize) -> Vec3>(
     requires callable { MayMake (F.pre f) n (length work.old) }
     ensures { (g : _) → Makes (F.post f) g n into work.old → Summed g n anchor with into work.old n work.new result }
 {
+    let dot = Dot {
+        cameras: n,
+        anchor,
+        first: with,
+        second: into,
+    };
     let mut sum = zero();
     for i in 0..n {
         let v = f(work, i);
         put_vector(work, into, i, v);
-        sum = dot_step(work, n, anchor, with, into, i, sum);
+        sum = dot.step(work, i, sum);
     }
     sum
 }

@@ -3,6 +3,7 @@
 #![tactic(auto)]
 
 mod components;
+mod dot;
 mod ends;
 mod fields;
 mod reduced_system;

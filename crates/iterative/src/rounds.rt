@@ -8,12 +8,12 @@ ghost use Rattle.iterative.specs.inner.Solver.{FieldsFit, Iterated, MovedAlong, 
 ghost use Rattle.iterative.specs.inner.Solver.{frame_of, right_sums, state_in, stepped_by};
 
 use crate::components::{any, bound, find_bad_curvature, find_bad_product, quotient, stay_active};
-use crate::fields::{field_dot, precondition, step_field, update_search};
+use crate::dot::Dot;
+use crate::fields::{precondition, step_field, update_search};
 use crate::reduced_system::ReducedSystem;
 use crate::{Frame, Round, Step};
 use field::Vec3;
-use network::answers::refused_at;
-use network::{Cause, Refusal};
+use network::{CameraSum, Refusal};
 use std::ops::ControlFlow::{Break, Continue};
 use system::work::{applied_at, positions_at, preconditioned_at, residual_at, search_at};
 
@@ -26,8 +26,15 @@ fn redirect(frame: Frame, work: &mut [f64], r: Round) -> Result<Step, Refusal>
     let active = r.active;
     let old = r.old;
     let at = preconditioned_at(s);
-    let new = precondition(frame, work, residual_at(s), at);
-    refused_at(Cause::Product, find_bad_product(active, old, new))?;
+    let from = residual_at(s);
+    let new = precondition(frame, work, from, at);
+    let dot = Dot {
+        cameras: s.cameras,
+        anchor: frame.anchor,
+        first: from,
+        second: at,
+    };
+    dot.refused_at(work, CameraSum::Product, find_bad_product(active, old, new))?;
     let beta = quotient(new, old);
     update_search(s, work, active, beta, at, search_at(s));
     Ok(Continue(Round {
@@ -94,11 +101,15 @@ fn step(frame: Frame, work: &mut [f64], bound: Vec3, r: Round) -> Result<Step, R
     ensures { Ran frame.shape (stepped_by frame work.old r) work.old work.new result }
 {
     let s = frame.shape;
-    let curvature = field_dot(work, s.cameras, frame.anchor, search_at(s), applied_at(s));
-    refused_at(
-        Cause::Curvature,
-        find_bad_curvature(r.active, r.old, curvature),
-    )?;
+    let dot = Dot {
+        cameras: s.cameras,
+        anchor: frame.anchor,
+        first: search_at(s),
+        second: applied_at(s),
+    };
+    let curvature = dot.sum(work);
+    let bad = find_bad_curvature(r.active, r.old, curvature);
+    dot.refused_at(work, CameraSum::Curvature, bad)?;
     let t = move_along(frame, work, bound, r, curvature);
     go_on(frame, work, t)
 }

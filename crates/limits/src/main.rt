@@ -17,9 +17,9 @@ fn number(x: usize) {
 
 fn refusal(r: Refusal) {
     write_all(1, b"refused ");
-    number(r.cause.number());
+    number(r.number());
     write_all(1, b" place ");
-    number(r.place);
+    number(r.place());
 }
 
 fn told(name: &[u8], v: Result<(), Refusal>) {

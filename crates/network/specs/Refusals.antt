@@ -11,34 +11,52 @@ use Rattle.std.specs.Result.{result_and}
 use Rattle.field.specs.Count.{lowest, shift}
 use Rattle.field.specs.Buffer.{get, vector}
 use Rattle.network.specs.declared.Cause.{Cause}
+use Rattle.network.specs.declared.CameraSum.{CameraSum}
+use Rattle.network.specs.declared.CameraSum.TheVariants as sum
 use Rattle.network.specs.declared.Refusal.{Refusal}
+use Rattle.network.specs.declared.Refusal.TheVariants.{At, Sum}
 use Rattle.network.specs.declared.Shape.{Shape}
 use Rattle.network.specs.Network.{Graph, Network, rows, first_end, second_end}
 use Rattle.network.specs.Lists.{lists_hold}
 
--- ---- a refusal's number, as the table of causes has it
+-- ---- a refusal's number, as the table of causes has it (11 to 13 also as document 02, R-2)
 
-abbrev pub number : Cause → ℕ
-number cause.Cameras = 1
-number cause.Sizes = 2
-number cause.Lengths = 3
-number cause.OutOfRange = 4
-number cause.Loop = 5
-number cause.PointLists = 6
-number cause.Domain = 7
-number cause.Route = 8
-number cause.Diagonal = 9
-number cause.Curvature = 11
-number cause.Product = 12
-number cause.Residual = 13
-number cause.Dimension = 14
-number cause.Pivot = 15
-number cause.Factor = 16
-number cause.Solution = 17
-number cause.Head = 20
-number cause.Pairs = 21
-number cause.Section = 22
-number cause.Room = 23
+abbrev pub cause_number : Cause → ℕ
+cause_number cause.Cameras = 1
+cause_number cause.Sizes = 2
+cause_number cause.Lengths = 3
+cause_number cause.OutOfRange = 4
+cause_number cause.Loop = 5
+cause_number cause.PointLists = 6
+cause_number cause.Domain = 7
+cause_number cause.Route = 8
+cause_number cause.Diagonal = 9
+cause_number cause.Dimension = 14
+cause_number cause.Pivot = 15
+cause_number cause.Factor = 16
+cause_number cause.Solution = 17
+cause_number cause.Head = 20
+cause_number cause.Pairs = 21
+cause_number cause.Section = 22
+cause_number cause.Room = 23
+
+abbrev pub sum_number : CameraSum → ℕ
+sum_number sum.Curvature = 11
+sum_number sum.Product = 12
+sum_number sum.Residual = 13
+
+abbrev pub number : Refusal → ℕ
+number (At k p) = cause_number k
+number (Sum s k c) = sum_number s
+
+-- 'component and camera': a sum's place is its component, and it alone has a camera
+abbrev pub place : Refusal → ℕ
+place (At k p) = p
+place (Sum s k c) = k
+
+abbrev pub camera : Refusal → Option ℕ
+camera (At k p) = None
+camera (Sum s k c) = Some c
 
 -- ---- tests in order
 
@@ -47,7 +65,7 @@ abbrev pub Verdict : Type 0
 Verdict = Result (Unit {0}) Refusal
 
 abbrev pub refuse : Cause → ℕ → Verdict
-refuse k p = Err (record { cause = k; place = p })
+refuse k p = Err (At k p)
 
 -- the cause k at place 0, where b holds
 unfoldable pub test : Cause → Bool → Verdict

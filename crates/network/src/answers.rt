@@ -9,7 +9,7 @@ pub fn refused_if(k: Cause, bad: bool) -> Result<(), Refusal>
     ensures { result ≡ test k bad }
 {
     if bad {
-        return Err(Refusal { cause: k, place: 0 });
+        return Err(Refusal::At { cause: k, place: 0 });
     }
     Ok(())
 }
@@ -19,7 +19,7 @@ pub fn refused_at(k: Cause, place: Option<usize>) -> Result<(), Refusal>
     ensures { result ≡ test_at k place }
 {
     match place {
-        Some(p) => Err(Refusal { cause: k, place: p }),
+        Some(p) => Err(Refusal::At { cause: k, place: p }),
         None => Ok(()),
     }
 }

@@ -13,7 +13,7 @@ pub mod route;
 
 ghost use Rattle.std.specs.Prelude.{◌≡◌, [], ◌∷◌, length, ◌+◌, ◌*◌};
 ghost use Rattle.network.specs.Network.{graph, rows, shape};
-ghost use Rattle.network.specs.Refusals.{number, verdict, count_tests, end_tests, link_tests, graph_row_tests, network_row_tests, marks_after};
+ghost use Rattle.network.specs.Refusals.{camera, number, place, verdict, count_tests, end_tests, link_tests, graph_row_tests, network_row_tests, marks_after};
 ghost use Rattle.network.specs.Refusals.{section, bad_vector};
 ghost use Rattle.network.specs.inner.Sound.{ShapeSound, NetworkLengths};
 
@@ -53,7 +53,7 @@ pub struct Span {
     pub size: usize,
 }
 
-// Why a call is refused, with the number that goes out. What the place counts stands behind it; without a word it is 0.
+// Why a call is refused at a place, with the number that goes out. What the place counts stands behind it; without a word it is 0.
 #[derive(Clone, Copy, Debug, PartialEq, Eq)]
 pub enum Cause {
     // n is 0 or over 4,096
@@ -74,12 +74,6 @@ pub enum Cause {
     Route = 8,
     // iterative: diagonal + 1e-6 not finite: camera. (10, the same not above 0, cannot be met.)
     Diagonal = 9,
-    // curvature not finite, or at most 2^-52 × size of old product: component
-    Curvature = 11,
-    // new product not finite, or old product at or below 0: component
-    Product = 12,
-    // final residual not finite or above the allowed: component
-    Residual = 13,
     // route 1 and n - 1 over the dense limit: n - 1
     Dimension = 14,
     // dense: pivot not finite or not above 0: row
@@ -98,20 +92,62 @@ pub enum Cause {
     Room = 23,
 }
 
-impl Cause {
+// The sum of products over the cameras for which an iterative solve is refused, with the number that goes out.
+#[derive(Clone, Copy, Debug, PartialEq, Eq)]
+pub enum CameraSum {
+    // curvature not finite, or at most 2^-52 × size of old product
+    Curvature = 11,
+    // new product not finite, or old product at or below 0
+    Product = 12,
+    // final residual not finite or above the allowed
+    Residual = 13,
+}
+
+// A refused call: for a cause at a place; or for a sum, of the component 0, 1 or 2 for x, y or z, with the first camera at which the running sum is
+// not finite, n where it stays finite.
+#[derive(Clone, Copy, Debug, PartialEq, Eq)]
+pub enum Refusal {
+    At {
+        cause: Cause,
+        place: usize,
+    },
+    Sum {
+        sum: CameraSum,
+        component: usize,
+        camera: usize,
+    },
+}
+
+impl Refusal {
     // (No `From`: the name says what the number is.)
     pub fn number(self) -> usize
         ensures { result ≡ number self }
     {
-        self as usize
+        match self {
+            Refusal::At { cause, .. } => cause as usize,
+            Refusal::Sum { sum, .. } => sum as usize,
+        }
     }
-}
 
-// A refused call.
-#[derive(Clone, Copy, Debug, PartialEq, Eq)]
-pub struct Refusal {
-    pub cause: Cause,
-    pub place: usize,
+    // The place, which of a sum is the component.
+    pub fn place(self) -> usize
+        ensures { result ≡ place self }
+    {
+        match self {
+            Refusal::At { place, .. } => place,
+            Refusal::Sum { component, .. } => component,
+        }
+    }
+
+    // The camera, of a sum.
+    pub fn camera(self) -> Option<usize>
+        ensures { result ≡ camera self }
+    {
+        match self {
+            Refusal::At { .. } => None,
+            Refusal::Sum { camera, .. } => Some(camera),
+        }
+    }
 }
 
 // 1 and 2.

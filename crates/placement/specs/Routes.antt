@@ -5,6 +5,7 @@ use Rattle.std.specs.Prelude.{Err, Ok, Result}
 use Rattle.std.specs.Prelude.{ℕ, ◌-◌, ◌*◌, List, [], ◌++◌, Bool, cond, ◌&&◌, eqb, leb}
 use Rattle.field.specs.declared.Vec3.{Vec3}
 use Rattle.network.specs.declared.Refusal.{Refusal}
+use Rattle.network.specs.declared.Refusal.TheVariants.{At}
 use Rattle.network.specs.Refusals.{Verdict}
 use Rattle.network.specs.Network.{Network}
 use Rattle.network.specs.declared.Shape.{Shape}
@@ -45,16 +46,16 @@ abbrev pub report : Network → ℕ → ℕ → Report
 report net route rounds = record { anchor = anchor net; route = route; rounds = rounds; few = few net }
 
 abbrev pub failing_at : Cause → ℕ → Placement
-failing_at k p = failing (record { cause = k; place = p })
+failing_at k p = failing (At k p)
 
 abbrev pub rejected_at : Cause → ℕ → Placement
-rejected_at k p = rejected (record { cause = k; place = p })
+rejected_at k p = rejected (At k p)
 
 -- 15 to 17: where the dense solve breaks down
 abbrev pub broken : Breakdown → Refusal
-broken (breakdown.Pivot i) = record { cause = cause.Pivot; place = i }
-broken (breakdown.Factor i) = record { cause = cause.Factor; place = i }
-broken (breakdown.Solution i) = record { cause = cause.Solution; place = i }
+broken (breakdown.Pivot i) = At cause.Pivot i
+broken (breakdown.Factor i) = At cause.Factor i
+broken (breakdown.Solution i) = At cause.Solution i
 
 -- dense as route r: the cameras, after no round, or 15 to 17
 abbrev pub by_dense : ℕ → Result (List Vec3) Breakdown → Placement

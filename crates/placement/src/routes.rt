@@ -68,15 +68,15 @@ fn refusal(breakdown: Breakdown) -> Refusal
     ensures { result ≡ broken breakdown }
 {
     match breakdown {
-        Breakdown::Pivot(row) => Refusal {
+        Breakdown::Pivot(row) => Refusal::At {
             cause: Cause::Pivot,
             place: row,
         },
-        Breakdown::Factor(row) => Refusal {
+        Breakdown::Factor(row) => Refusal::At {
             cause: Cause::Factor,
             place: row,
         },
-        Breakdown::Solution(row) => Refusal {
+        Breakdown::Solution(row) => Refusal::At {
             cause: Cause::Solution,
             place: row,
         },
@@ -166,7 +166,7 @@ pub(crate) fn go(
 {
     match route {
         Route::Dense => {
-            let over = Refusal {
+            let over = Refusal::At {
                 cause: Cause::Dimension,
                 place: links.shape().cameras - 1,
             };

@@ -86,8 +86,16 @@ struct Tally {
     refused: [usize; 24],
 }
 
-// An answer of a text: an accepted solve, or number and place of a refusal.
-fn read_answer(text: &mut Text) -> Result<Report, (usize, usize)> {
+// A refusal of a text: its number and place, and the camera that 11 to 13 have.
+#[derive(Clone, Copy)]
+struct Refused {
+    number: usize,
+    place: usize,
+    camera: Option<usize>,
+}
+
+// An answer of a text: an accepted solve, or a refusal.
+fn read_answer(text: &mut Text) -> Result<Report, Refused> {
     text.word(b"answer");
     let first = text.whole();
     let second = text.whole();
@@ -99,16 +107,23 @@ fn read_answer(text: &mut Text) -> Result<Report, (usize, usize)> {
             few: text.whole(),
         })
     } else {
-        Err((first, second))
+        let summed = 11 <= first && first <= 13;
+        Err(Refused {
+            number: first,
+            place: second,
+            camera: if summed { Some(text.whole()) } else { None },
+        })
     };
     text.end();
     answer
 }
 
-fn same_answer(answer: Result<Report, Refusal>, wanted: Result<Report, (usize, usize)>) -> bool {
+fn same_answer(answer: Result<Report, Refusal>, wanted: Result<Report, Refused>) -> bool {
     match (answer, wanted) {
         (Ok(a), Ok(b)) => a == b,
-        (Err(r), Err((number, place))) => r.cause.number() == number && r.place == place,
+        (Err(r), Err(w)) => {
+            r.number() == w.number && r.place() == w.place && r.camera() == w.camera
+        }
         _ => false,
     }
 }
@@ -146,7 +161,7 @@ fn count(tally: &mut [usize], place: usize) {
 // An answer among those met.
 fn count_answer(answer: Result<Report, Refusal>, tally: &mut Tally) {
     match answer {
-        Err(r) => count(&mut tally.refused, r.cause.number()),
+        Err(r) => count(&mut tally.refused, r.number()),
         Ok(report) => count(&mut tally.accepted, report.route),
     }
 }

@@ -7,9 +7,13 @@ use native.Mathlib.Omega.{arith}
 use lib.ListN.{length}
 use lib.Ieee.{nan, binary64, of_bits, to_bits, size}
 use Rattle.field.specs.declared.Vec3.{Vec3}
+use Rattle.network.specs.declared.CameraSum.TheVariants.{Curvature}
+use Rattle.network.specs.declared.Cause.TheVariants.{Room}
+use Rattle.network.specs.declared.Refusal.{Refusal}
+use Rattle.network.specs.declared.Refusal.TheVariants.{At, Sum}
 use Rattle.field.specs.Vec.{origin, null}
 use Rattle.text.specs.Text.{ascii, digit, hex, digits, decimal, bits, named, spaced, coordinates, vector_line, numbered, vector_lines}
-use Rattle.text.specs.Text.{counts_line, parts_line, report_line, few_line, placed_text, refused_text}
+use Rattle.text.specs.Text.{counts_line, parts_line, report_line, few_line, placed_text, camera_text, refused_text}
 
 -- the whole case prints exactly its five lines, and `few 1` after the report's
 pub whole-case : placed_text 1 1 1 0 1 0 2 0 1 (origin ∷ []) (record { x = null; y = null; z = of_bits binary64 0x4000000000000000 } ∷ []) ≡
@@ -18,10 +22,14 @@ pub whole-case : placed_text 1 1 1 0 1 0 2 0 1 (origin ∷ []) (record { x = nul
 unfolding ascii digit hex digits decimal bits named spaced coordinates vector_line numbered vector_lines counts_line parts_line report_line few_line placed_text to_bits of_bits size
 whole-case = refl
 
--- a refusal
-pub refusal : refused_text 23 16384 ≡ ascii "refused 23 place 16384\n"
-unfolding ascii digit digits decimal named refused_text
+-- a refusal, and one that has a camera
+pub refusal : refused_text (At Room 16384) ≡ ascii "refused 23 place 16384\n"
+unfolding ascii digit digits decimal named camera_text refused_text
 refusal = refl
+
+pub sum-refusal : refused_text (Sum Curvature 0 3) ≡ ascii "refused 11 place 0 camera 3\n"
+unfolding ascii digit digits decimal named camera_text refused_text
+sum-refusal = refl
 
 -- 'A NaN prints as 7ff8000000000000.'
 pub nan-bits : bits nan ≡ ascii "7ff8000000000000"
@@ -39,6 +47,6 @@ pub placed-some : (n m b e parts anchor route rounds few : ℕ) (cameras points 
 unfolding ascii named counts_line placed_text
 placed-some n m b e parts anchor route rounds few cameras points = omega arith
 
-pub refused-some : (number place : ℕ) → 0 < length (refused_text number place)
+pub refused-some : (r : Refusal) → 0 < length (refused_text r)
 unfolding ascii named refused_text
-refused-some number place = omega arith
+refused-some r = omega arith

@@ -1,10 +1,12 @@
--- What the solve program prints, as lists of bytes. (Document 01, 'Network image (added) and the solve program'; document 02, R-11.)
-use Rattle.std.specs.Prelude.{List, [], ◌∷◌, ◌++◌, Bool, true, false, cond, ℕ, zero, suc, ◌+◌, ◌/◌, ◌%◌, ltb, Float}
+-- What the solve program prints, as lists of bytes. (Document 01, 'Network image (added) and the solve program'; document 02, R-2 and R-11.)
+use Rattle.std.specs.Prelude.{None, Option, Some, List, [], ◌∷◌, ◌++◌, Bool, true, false, cond, ℕ, zero, suc, ◌+◌, ◌/◌, ◌%◌, ltb, Float}
 use Prim.Native.String.{String, [] as none, ◌∷◌ as ◌then◌}
 use Prim.Native.Char.{code}
 use Rattle.std.specs.Float.{binary64}
 use Rattle.std.specs.Float.Ieee.{to_bits}
 use Rattle.field.specs.declared.Vec3.{Vec3}
+use Rattle.network.specs.declared.Refusal.{Refusal}
+use Rattle.network.specs.Refusals.{camera, number, place}
 
 -- the characters of a text as bytes
 unfoldable pub ascii : String → List ℕ
@@ -86,6 +88,11 @@ placed_text n m b e parts anchor route rounds few cameras points =
     counts_line n m b e ++ parts_line parts ++ report_line anchor route rounds ++ few_line few ++
     vector_lines (code "c") cameras ++ vector_lines (code "p") points
 
+-- the end of the line of 11 to 13: 'ends in ` camera C`' (document 02, R-2)
+unfoldable pub camera_text : Option ℕ → List ℕ
+camera_text (Some c) = named (ascii " camera ") c
+camera_text None = []
+
 -- 'A refusal prints only `refused N place P`.'
-unfoldable pub refused_text : (number place : ℕ) → List ℕ
-refused_text number place = named (ascii "refused ") number ++ named (ascii " place ") place ++ newline
+unfoldable pub refused_text : Refusal → List ℕ
+refused_text r = named (ascii "refused ") (number r) ++ named (ascii " place ") (place r) ++ camera_text (camera r) ++ newline

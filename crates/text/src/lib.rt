@@ -4,13 +4,13 @@
 
 ghost use Rattle.std.specs.Prelude.{◌≡◌, [], ◌∷◌, ◌++◌, ◌+◌, ◌/◌, ◌≤◌, ◌<◌, leb, length};
 ghost use Rattle.field.specs.Buffer.{vectors_in};
-ghost use Rattle.text.specs.Text.{digit, hex, decimal, spaced, named, newline, coordinates, vector_line, vector_lines, refused_text};
+ghost use Rattle.text.specs.Text.{digit, hex, decimal, spaced, named, newline, coordinates, vector_line, vector_lines, camera_text, refused_text};
 ghost use Rattle.text.specs.Lent.{PutIfRoom, PutPlaced, room};
 ghost use Rattle.text.specs.inner.Steps.{HasRoom, Wrote, counts_of, report_of, head_of, line_room};
 
 use double::to_bits;
 use field::{Vec3, get3};
-use network::Shape;
+use network::{Refusal, Shape};
 use placement::Report;
 
 // A digit below 16 as a byte.
@@ -100,6 +100,16 @@ impl<'a> Writer<'a> {
     {
         self.named(one, x);
         self.named(two, y);
+    }
+
+    // The camera of a refusal, where it has one.
+    fn camera(&mut self, camera: Option<usize>)
+        requires { HasRoom self.old 28 }
+        ensures { Wrote self.old self.new (camera_text camera) 28 }
+    {
+        if let Some(c) = camera {
+            self.named(b" camera ", c);
+        }
     }
 
     // A line of a label and a number.
@@ -209,14 +219,15 @@ pub fn put_placed(
     0
 }
 
-// What a refusal prints, at the front of `out`. Of any two numbers: a `Refusal` would ask more, that the first is of a cause.
+// What a refusal prints, at the front of `out`.
 // The answer is the number of bytes written, as that of `put_placed`: 0, and `out` stays as it was, where it is shorter than 256 bytes.
-pub fn put_refused(number: usize, place: usize, out: &mut [u8]) -> usize
-    ensures { PutIfRoom out.old out.new 0 (refused_text number place) result }
+pub fn put_refused(refusal: Refusal, out: &mut [u8]) -> usize
+    ensures { PutIfRoom out.old out.new 0 (refused_text refusal) result }
 {
     if has_room(0, out) {
         let mut w = Writer { out, at: 0 };
-        w.pair(b"refused ", number, b" place ", place);
+        w.pair(b"refused ", refusal.number(), b" place ", refusal.place());
+        w.camera(refusal.camera());
         w.byte(b'\n');
         return w.at;
     }

@@ -71,6 +71,15 @@ pub fn all_bits(numbers: &[f64]) -> Vec<u64> {
     numbers.iter().copied().map(bits).collect()
 }
 
+/// A refusal as the library's numbers: number and place, and of 11 to 13 the camera, which is n where the sum stayed finite.
+pub fn told(error: &Error, n: usize) -> Vec<usize> {
+    let mut numbers = vec![error.number(), error.place()];
+    if (11..=13).contains(&error.number()) {
+        numbers.push(error.camera().unwrap_or(n));
+    }
+    numbers
+}
+
 /// The refusal by 3 of this slice.
 pub fn length(slice: &'static str, expected: usize, actual: usize) -> Error {
     Error::Length {

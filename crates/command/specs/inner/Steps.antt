@@ -12,7 +12,8 @@ use Rattle.graph.specs.Distinct.{distinct}
 use Rattle.lists.specs.PointLists.{offsets_of, listed_of}
 use Rattle.image.specs.Reading.{shape_at}
 use Rattle.image.specs.Tests.{content_fits, content_sections, counts_tests}
-use Rattle.command.specs.Command.{refused_line, placed_lines, Prints}
+use Rattle.text.specs.Text.{refused_text}
+use Rattle.command.specs.Command.{placed_lines, Prints}
 use Rattle.command.specs.declared.Printed.{Printed}
 use Rattle.command.specs.declared.Reported.{Reported}
 
@@ -73,7 +74,7 @@ pub record Exactly (x : Result Report Refusal) (t : List ℕ) (answer : Result R
 
 -- a refusal and its line
 abbrev pub RefusedAs : Refusal → Result Report Refusal → List ℕ → Type 0
-RefusedAs r = Exactly (Err r) (refused_line r)
+RefusedAs r = Exactly (Err r) (refused_text r)
 
 -- what `run` answers of a step that has printed
 abbrev pub printed : Reported → Printed
@@ -81,12 +82,12 @@ printed p = record { answer = Ok p.report; length = p.length }
 
 -- A step of `run`: it has printed an answer of which P holds. Or it refuses, and has printed nothing: then P holds of the refusal and its line.
 unfoldable pub Steps : (Result Report Refusal → List ℕ → Type 0) → Result Reported Refusal → (buffer buffer' : List ℕ) → Type 0
-Steps P (Err r) buffer buffer' = P (Err r) (refused_line r) × (buffer' ≡ buffer)
+Steps P (Err r) buffer buffer' = P (Err r) (refused_text r) × (buffer' ≡ buffer)
 Steps P (Ok p) buffer buffer' = Prints P (printed p) buffer buffer'
 
 -- an answer and its lines, where cs and ps hold the cameras' and points' numbers
 abbrev pub text_of : Shape → (parts : ℕ) → Result Report Refusal → (cs ps : List Float) → List ℕ
-text_of s parts (Err r) cs ps = refused_line r
+text_of s parts (Err r) cs ps = refused_text r
 text_of s parts (Ok p) cs ps = placed_lines s parts p (vectors_in cs) (vectors_in ps)
 
 abbrev pub AnsweredAs : Shape → (parts : ℕ) → Result Report Refusal → (cs ps : List Float) → Result Report Refusal → List ℕ → Type 0

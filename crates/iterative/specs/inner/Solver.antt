@@ -6,7 +6,7 @@ use Rattle.std.specs.Float.Ieee.{add}
 use Rattle.std.specs.Float.{binary64}
 use Rattle.field.specs.Buffer.{get, load, put as put_at, store, vector}
 use Rattle.field.specs.Count.{field, upto}
-use Rattle.field.specs.Vec.{origin, over, plus}
+use Rattle.field.specs.Vec.{Axis, origin, over, plus}
 use Rattle.field.specs.declared.Vec3.{Vec3}
 use Rattle.network.specs.Network.{Links}
 use Rattle.network.specs.inner.Sound.{ShapeSound}
@@ -16,12 +16,15 @@ use Rattle.system.specs.System.{ridge, diagonal_of}
 use Rattle.system.specs.inner.Formed.{positions_in, weights_in}
 use Rattle.operator.specs.Operator.{reduced_by}
 use Rattle.iterative.specs.Method.{Ending, Run, State, accepted, allowed, any, bad_residual, bound_of, closed, component, continued, ended}
-use Rattle.iterative.specs.Method.{failed, flag, moved, next, preconditioned, redirect, refused, residual_of, round, running, solution}
-use Rattle.iterative.specs.Method.{starts_active, step, stepped_field}
+use Rattle.iterative.specs.Method.{failed, flag, inner_camera, moved, next, preconditioned, redirect, refused, residual_field, residual_of, round, running, solution}
+use Rattle.iterative.specs.Method.{starts_active, step, stepped_field, sum_test}
 use Rattle.iterative.specs.Opening.{Opened, Segment, start_segments}
-use Rattle.iterative.specs.Problem.{Problem, dot_step, field_dot, most_rounds, times}
+use Rattle.iterative.specs.Problem.{Problem, dot_step, field_dot, first_not_finite, most_rounds, times}
 use Rattle.iterative.specs.declared.Active.{Active}
 use Rattle.iterative.specs.declared.Frame.{Frame}
+use Rattle.iterative.specs.declared.dot.Dot.{Dot}
+use Rattle.network.specs.Refusals.{Verdict}
+use Rattle.network.specs.declared.CameraSum.TheVariants.{Residual}
 use Rattle.network.specs.declared.Refusal.{Refusal}
 use Rattle.iterative.specs.declared.Round.{Round}
 use Rattle.std.specs.declared.ops.ControlFlow.{ControlFlow}
@@ -61,6 +64,17 @@ frame_of t = record { shape = t.links.shape; anchor = t.anchor }
 -- camera i's diagonal with the ridge
 abbrev pub diagonal_in : List Float → ℕ → Float
 diagonal_in l i = add binary64 (get term l (term_place i)).diagonal ridge
+
+-- a sum of products of two fields, and the first camera at which component k of it is not finite
+abbrev pub dot_in : Dot → List Float → Vec3
+dot_in d l = field_dot d.cameras d.anchor (load vector l d.first d.cameras) (load vector l d.second d.cameras)
+
+abbrev pub dot_camera_in : Dot → List Float → Axis → ℕ
+dot_camera_in d l = first_not_finite d.cameras d.anchor (load vector l d.first d.cameras) (load vector l d.second d.cameras)
+
+-- both fields stand in a buffer
+abbrev pub DotFits : Dot → ℕ → Type 0
+DotFits d size = (d.first + 3 * d.cameras ≤ size) × (d.second + 3 * d.cameras ≤ size)
 
 -- the square sums of the right side, and their bounds
 abbrev pub right_sums : Frame → List Float → Vec3
@@ -230,14 +244,17 @@ pub record PositionsKept (s : Shape) (l l' : List Float) : Type 0 where
   pub kept : SystemKept s l l'
   pub positions : positions_in s l' ≡ positions_in s l
 
--- the residual worked out afresh
-pub record Settled (s : Shape) (P : Problem) (l l' : List Float) (v : Vec3) : Type 0 where
-  pub residual : v ≡ residual_of P (positions_in s l)
+-- the residual worked out afresh: d is the sum of its squares
+pub record Settled (s : Shape) (P : Problem) (l l' : List Float) (d : Dot) : Type 0 where
+  pub fits : DotFits d (length l')
+  pub sum : dot_in d l' ≡ residual_of P (positions_in s l)
+  pub camera : dot_camera_in d l' ≡ inner_camera P (residual_field P (positions_in s l)) (residual_field P (positions_in s l))
   pub kept : PositionsKept s l l'
 
 -- the final test
-pub record Tested (s : Shape) (P : Problem) (l l' : List Float) (r : Option ℕ) : Type 0 where
-  pub place : r ≡ component (bad_residual (allowed P) (residual_of P (positions_in s l)))
+pub record Tested (s : Shape) (P : Problem) (l l' : List Float) (v : Verdict) : Type 0 where
+  pub value : v ≡ sum_test Residual (component (bad_residual (allowed P) (residual_of P (positions_in s l))))
+      (inner_camera P (residual_field P (positions_in s l)) (residual_field P (positions_in s l)))
   pub kept : PositionsKept s l l'
 
 -- the answer for each way in which the method can end

@@ -1,17 +1,14 @@
-use Rattle.network.proofs.Verdicts.{given, test-at-passed}
-use Rattle.network.specs.declared.Cause.TheVariants.{Product}
-use mathlib.Core.Path.{sym, ◌∙◌}
+use Rattle.network.proofs.Verdicts.{given}
 use Rattle.iterative.proofs.Rounding.{redirect-failed, redirect-running}
 use Rattle.iterative.proofs.rounds.redirect.Goals as goal
 
 pub returns-in_err-refused_at : goal.returns-in_err-refused_at
 returns-in_err-refused_at c =
     rw (given c.from_residual.ensures.1)
-    (redirect-failed _ _ c.requires _ _ _ _ _ c.residual_at.ensures c.preconditioned_at-at.ensures c.precondition-new.ensures
+    (redirect-failed _ _ c.requires _ _ _ _ _ c.residual_at-from.ensures c.preconditioned_at-at.ensures c.precondition-new.ensures
     _ c.find_bad_product.ensures c.refused_at.ensures c.in_err-refused_at.was)
 
 pub returns : goal.returns
 returns c =
-    redirect-running _ _ c.requires _ _ _ _ _ c.residual_at.ensures c.preconditioned_at-at.ensures c.precondition-new.ensures _ _ _ _
-    c.find_bad_product.ensures (test-at-passed Product _ (sym c.refused_at.ensures ∙ c.in_ok-refused_at.was))
-    c.search_at.ensures c.quotient-beta.ensures c.update_search.ensures
+    redirect-running _ _ c.requires _ _ _ _ _ c.residual_at-from.ensures c.preconditioned_at-at.ensures c.precondition-new.ensures _ _ _ _
+    c.find_bad_product.ensures c.refused_at.ensures c.in_ok-refused_at.was c.search_at.ensures c.quotient-beta.ensures c.update_search.ensures

@@ -1,7 +1,7 @@
 use Rattle.iterative.proofs.Entries.{dot-none, dot-more}
 use Rattle.iterative.specs.Problem.{field_dot}
 use borrow.Author.Rules.{rules}
-use Rattle.iterative.proofs.fields.field_dot.Goals as goal
+use Rattle.iterative.proofs.dot.Dot.sum.Goals as goal
 
 pub loop-i-init : goal.loop-i-init
 loop-i-init c = search dot-none
