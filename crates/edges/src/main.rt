@@ -11,7 +11,6 @@ use io::{print_hex, write_all};
 use network::lent::Network;
 use network::{Refusal, Shape};
 use placement::Report;
-use system::work::work_length;
 
 fn root(name: &[u8], bits: u64) {
     write_all(1, b"root of ");
@@ -131,22 +130,22 @@ fn position(name: &[u8], numbers: &[f64]) {
     write_all(1, b"\n");
 }
 
-// Solves in buffers of the largest network's sizes, cut to this one's, and shows what an accepted solve leaves of camera 0 and point 0.
-fn solve(name: &[u8], net: &Network<'_>, route: usize, limit: usize)
-    requires { (net.now.shape.cameras ≤ 3) × (net.now.shape.points ≤ 2) × (net.now.shape.bearings ≤ 3) }
+// Solves in buffers of the largest network's sizes, cut to this one's, with a work buffer of so many doubles, and shows what an accepted solve leaves of
+// camera 0 and point 0.
+fn solve(name: &[u8], net: &Network<'_>, route: usize, limit: usize, lent: usize)
+    requires { (net.now.shape.cameras ≤ 3) × (net.now.shape.points ≤ 2) × (net.now.shape.bearings ≤ 3) × (lent ≤ 93) }
 {
     let mut marks = [9usize; 3];
     let mut work = [7.0; 93];
     let mut cameras = [7.0; 9];
     let mut placed = [7.0; 6];
     let s = net.shape;
-    let needed = work_length(s, route, limit).unwrap_or(0).min(93);
     let given = placement::solve(
         net,
         &mut marks[..s.bearings],
         route,
         limit,
-        &mut work[..needed],
+        &mut work[..lent],
         &mut cameras[..3 * s.cameras],
         &mut placed[..3 * s.points],
     );
@@ -169,7 +168,7 @@ fn one_camera(name: &[u8], weight: f64, scale: f64) {
         offsets: &[0, 1],
         listed: &[0],
     };
-    solve(name, &net, 3, 48);
+    solve(name, &net, 3, 48, 29);
 }
 
 // n=3, cameras 1 and 2 see point 0 with weight 1e200, camera 0 sees point 1 with 1e201, scales 1. Route 1.
@@ -184,7 +183,7 @@ fn three_cameras(name: &[u8], limit: usize) {
         offsets: &[0, 2, 3],
         listed: &[0, 1, 2],
     };
-    solve(name, &net, 1, limit);
+    solve(name, &net, 1, limit, 93);
 }
 
 fn solves() {
@@ -192,8 +191,14 @@ fn solves() {
     one_camera(b"weight 0, scale 0.5", 0.0, 0.5);
     one_camera(b"weight 1e-12, scale 1", 1e-12, 1.0);
     let pair = directed(&[1e300], &[1e10]);
-    solve(b"weight 1e300, scale 1e10, route 2", &pair, 2, 1);
-    solve(b"weight 1e300, scale 1e10, route 1, limit 1", &pair, 1, 1);
+    solve(b"weight 1e300, scale 1e10, route 2", &pair, 2, 1, 53);
+    solve(
+        b"weight 1e300, scale 1e10, route 1, limit 1",
+        &pair,
+        1,
+        1,
+        53,
+    );
     three_cameras(b"weights 1e200 and 1e201, route 1, limit 1", 1);
     three_cameras(b"weights 1e200 and 1e201, route 1, limit 2", 2);
 }

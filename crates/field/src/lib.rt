@@ -126,13 +126,16 @@ pub fn gain3(s: &mut [f64], p: usize, v: Vec3)
     put3(s, p, u);
 }
 
-// A field of n vectors from one buffer to another. (Here and not at its caller, so that the contract can tell it of vectors, which the slices hold as numbers.)
+// A field of n vectors from one buffer to another. (Here and not at its caller, so that the contract can tell it of vectors, which the slices hold as numbers.
+// Not by `copy_from_slice`: the static library would need `memmove` from outside for it.)
 pub fn copy3(src: &[f64], from: usize, dst: &mut [f64], into: usize, n: usize)
     requires { (from + 3 * n ≤ length src.now) × (into + 3 * n ≤ length dst.old) }
     ensures { dst.new ≡ store vector dst.old into (load vector src.now from n) }
 {
-    let count = 3 * n;
-    dst[into..into + count].copy_from_slice(&src[from..from + count]);
+    for i in 0..n {
+        let v = get3(src, from + 3 * i);
+        put3(dst, into + 3 * i, v);
+    }
 }
 
 // The first m items become `zero`, of which each copy is the same. (Callers would read `s[..m].fill(zero)` as a list cut and joined; this tells it of the whole.)

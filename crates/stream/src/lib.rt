@@ -5,25 +5,37 @@
 // only the number of bytes, and `read_all` promises no more.
 #![tactic(auto)]
 
-ghost use Rattle.std.specs.Prelude.{◌≤◌, length, take};
+ghost use Rattle.std.specs.Prelude.{◌≡◌, ◌≤◌, length, take};
+ghost use Rattle.std.specs.Result.{IfOk, IsErr};
 ghost use Rattle.std.specs.Io.KnownBytes.{Appends, ReadConsumes};
-ghost use Rattle.stream.specs.Stream.{ReadInto};
+ghost use Rattle.stream.specs.Stream.{ReadInto, Stored};
 
 use std::io;
 use std::io::{Read, Write};
 
-// One read, of at most 4,096 bytes, into the front of buf. No bytes are the end of the input, and an error, and nothing else, is a failure: `bytes`
-// says so of a reader whose bytes are known. The bytes come by way of an array, since a reader does not promise to leave those after them as they
-// were.
+// What a read answered, and where it is so many bytes, those at the front of buf. An error, and nothing else, is a failure; a failure changes nothing.
+fn store(answer: io::Result<usize>, chunk: &[u8], buf: &mut [u8]) -> io::Result<usize>
+    requires { IfOk answer (λ n. (n ≤ length chunk.now) × (n ≤ length buf.old)) }
+    ensures told { result ≡ answer }
+    ensures stored { Stored answer chunk.now buf.old buf.new }
+{
+    if let Ok(count) = answer {
+        buf[..count].copy_from_slice(&chunk[..count]);
+    }
+    answer
+}
+
+// One read, of at most 4,096 bytes, into the front of buf. No bytes are the end of the input. The bytes come by way of an array, since a reader does
+// not promise to leave those after them as they were.
 fn read_once<R: Read>(from: &mut R, buf: &mut [u8]) -> io::Result<usize>
     ensures into { ReadInto result buf.old buf.new }
+    ensures kept { IsErr result → buf.new ≡ buf.old }
     ensures bytes { ReadConsumes (R.remaining from.old) (R.remaining from.new) result buf.new }
 {
     let mut chunk = [0u8; 4096];
     let room = buf.len().min(chunk.len());
-    let count = from.read(&mut chunk[..room])?;
-    buf[..count].copy_from_slice(&chunk[..count]);
-    Ok(count)
+    let answer = from.read(&mut chunk[..room]);
+    store(answer, &chunk, buf)
 }
 
 // Reads until the input ends or buf is full, and counts the bytes, which stand at the front of buf. Those after them are as they were.

@@ -1,11 +1,19 @@
-use Rattle.std.proofs.Common.{◌≡◌, ◌+◌, ◌*◌, ◌-◌, arith}
+use mathlib.Core.Path.{◌≡◌, refl, ◌∙◌}
+use native.Mathlib.Numerals.{add-one}
 use Rattle.field.specs.Buffer.{vector}
-use Rattle.field.proofs.Buffers.{store-loaded, vector-lawful}
+use Rattle.field.proofs.Buffers.{load-none, load-more, vector-lawful}
+use native.Mathlib.Omega.{arith}
 use Rattle.field.proofs.copy3.Goals as goal
+
+pub loop-i-init : goal.loop-i-init
+loop-i-init c = (load-none vector _ _ _ _, refl)
+
+pub loop-i-preserved : goal.loop-i-preserved
+loop-i-preserved c =
+    let l = c.loop-i in
+    (rw add-one (c.put3.ensures ∙ load-more vector vector-lawful _ _ _ _ _ _ _ l.invariant.0 c.get3-v.ensures), omega arith)
 
 pub returns : goal.returns
 returns c =
-    let a = c.args in
-    let e : a.into + 3 * a.n - a.into ≡ 3 * a.n = omega arith in
-    let f : a.from + 3 * a.n - a.from ≡ 3 * a.n = omega arith in
-    rw (c.copy_from_slice.ensures.after, e, f, store-loaded vector vector-lawful a.dst.now a.into a.src.now a.from a.n c.requires.0 c.requires.1)
+    let e : c.loop-i.i ≡ c.args.n = omega arith in
+    rw e at c.loop-i.invariant.0

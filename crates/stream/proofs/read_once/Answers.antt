@@ -1,12 +1,14 @@
-use Rattle.std.proofs.Common.{rules}
-use Rattle.std.proofs.lemmas.Slice.{drop-append-drop}
-use Rattle.stream.specs.Stream.{ReadInto}
-use Rattle.stream.proofs.Lemmas.{failed}
+use Rattle.std.proofs.Common.{sym, arith, rules}
+use Rattle.std.proofs.lemmas.List.{length-take}
+use Rattle.stream.proofs.Lemmas.{stored-into, stored-kept, stored-bytes}
 use Rattle.stream.proofs.read_once.Goals as goal
 
-pub returns-in_err-count-clause-into : goal.returns-in_err-count-clause-into
-returns-in_err-count-clause-into g c = search failed
-
 pub returns-clause-into : goal.returns-clause-into
-unfolding ReadInto
-returns-clause-into g c = search (rules, drop-append-drop)
+returns-clause-into g c = rw (sym c.store.ensures.told) at (stored-into _ _ _ _ c.store.ensures.stored)
+
+pub returns-clause-kept : goal.returns-clause-kept
+returns-clause-kept g c = rw (sym c.store.ensures.told) at (stored-kept _ _ _ _ c.store.ensures.stored)
+
+pub returns-clause-bytes : goal.returns-clause-bytes
+returns-clause-bytes g c =
+    rw (sym c.store.ensures.told) at (stored-bytes _ _ _ _ _ _ _ c.read-answer.ensures.bound (search (rules, arith, length-take)) c.store.ensures.stored c.read-answer.ensures.bytes)
