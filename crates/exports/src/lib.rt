@@ -22,23 +22,25 @@ use network::lent::{Content, Network};
 use network::{Refusal, Shape, check_counts};
 use recover::{dots, scales as new_scales};
 
-// Makes the call where the report has so many numbers; else the verdict of the tests before 3 decides.
+// Makes the call where the report has so many numbers; else the verdict of the tests before 3 decides, which are made only then.
 // The call stores what it tells by itself: the borrow checker does not cover a bound that names the N of an answer [usize; N].
-fn reported<F: FnMut(&mut [usize]) -> usize>(
+fn reported<F: FnMut(&mut [usize]) -> usize, T: FnOnce() -> Result<(), Refusal>>(
     report: &mut [usize],
     count: usize,
-    earlier: Result<(), Refusal>,
+    earlier: T,
     call: &mut F,
 ) -> usize
-    requires { (r : _) → length r.now ≡ count → F.pre call.old r }
+    requires called { (r : _) → length r.now ≡ count → F.pre call.old r }
+    requires tested { T.IsAlwaysCallable earlier }
     ensures whole { length report.old ≡ count → (r : _) × (q : _) × (r.now ≡ report.old)
         × F.step call.old r result q call.new × (q.now ≡ report.new) }
-    ensures otherwise { (length report.old ≡ count → ⊥) → Unreported earlier result report.old report.new × (call.new ≡ call.old) }
+    ensures otherwise { (length report.old ≡ count → ⊥) → (v : _) × T.post earlier v
+        × Unreported v result report.old report.new × (call.new ≡ call.old) }
 {
     if report.len() == count {
         call(report)
     } else {
-        unreported(report, earlier)
+        unreported(report, earlier())
     }
 }
 
@@ -70,7 +72,7 @@ pub extern "C" fn vobzeile_connected(
         told,
         graph::is_connected(s, ends, weights, nodes).map(yes_or_no),
     );
-    reported(report, 1, check_counts(s), &mut call)
+    reported(report, 1, || check_counts(s), &mut call)
 }
 
 // The parts listing: reports the number of parts.
@@ -94,7 +96,7 @@ pub extern "C" fn vobzeile_parts(
         told,
         graph::parts(s, ends, weights, nodes, labels).map(one),
     );
-    reported(report, 1, check_counts(s), &mut call)
+    reported(report, 1, || check_counts(s), &mut call)
 }
 
 // Reports the doubles that the work buffer of a solve needs.
@@ -115,7 +117,7 @@ pub extern "C" fn vobzeile_work_length(
         told,
         system::work::work_length(s, route, limit).map(one),
     );
-    reported(report, 1, check_counts(s), &mut call)
+    reported(report, 1, || check_counts(s), &mut call)
 }
 
 // The dot of each row with its baseline, bearings first: reports 0. The cameras are those of `trial` where the mark is not 0, else of `current`.
@@ -145,8 +147,9 @@ pub extern "C" fn vobzeile_dots(
         (length marks.old) current.now trial.now (not (eqb mark 0)) (length out.old))
         result marks.old marks.new out.old out.new report.old report.new }
 {
+    let s = Shape::new(n, m, b, e);
     let net = Network {
-        shape: Shape::new(n, m, b, e),
+        shape: s,
         ends,
         rays,
         weights,
@@ -159,7 +162,7 @@ pub extern "C" fn vobzeile_dots(
         told,
         dots(&net, marks, current, trial, mark != 0, out).map(nothing),
     );
-    reported(report, 1, check_counts(net.shape()), &mut call)
+    reported(report, 1, || check_counts(s), &mut call)
 }
 
 // The scale of each row, kept or renewed, bearings first: reports 0. The cameras are those of `trial` where the mark is not 0, else of `current`.
@@ -189,8 +192,9 @@ pub extern "C" fn vobzeile_scales(
         (length marks.old) current.now trial.now (not (eqb mark 0)) (length out.old))
         result marks.old marks.new out.old out.new report.old report.new }
 {
+    let s = Shape::new(n, m, b, e);
     let net = Network {
-        shape: Shape::new(n, m, b, e),
+        shape: s,
         ends,
         rays,
         weights,
@@ -203,7 +207,7 @@ pub extern "C" fn vobzeile_scales(
         told,
         new_scales(&net, marks, current, trial, mark != 0, out).map(nothing),
     );
-    reported(report, 1, check_counts(net.shape()), &mut call)
+    reported(report, 1, || check_counts(s), &mut call)
 }
 
 // The solve: reports anchor, route, rounds and few.
@@ -250,19 +254,16 @@ pub extern "C" fn vobzeile_solve(
         told,
         placement::solve(&net, marks, route, limit, work, cameras, placed).map(solved),
     );
-    reported(report, 4, check_counts(s), &mut call)
+    reported(report, 4, || check_counts(s), &mut call)
 }
 
-// The counts of an image: reports n, m, B, E. (Here and in the next the report's length is tested by hand: the tests before 3 go over the image's head, and
-// `reported` would have them made twice in every call.)
+// The counts of an image: reports n, m, B, E.
 #[unsafe(no_mangle)]
 pub extern "C" fn vobzeile_counts(bytes: &[u8], report: &mut [usize]) -> usize
     ensures { CountsCall bytes.now result report.old report.new }
 {
-    if report.len() != 4 {
-        return unreported(report, image::check_counted(bytes));
-    }
-    finish(report, image::counts(bytes).map(counted))
+    let mut call = |told: &mut [usize]| finish(told, image::counts(bytes).map(counted));
+    reported(report, 4, || image::check_counted(bytes), &mut call)
 }
 
 // Reads an image into slices that its counts fit: reports n, m, B, E.
@@ -281,13 +282,11 @@ pub extern "C" fn vobzeile_read(
         (lists_of ends.new rays.new weights.new scales.new points.new)
         result report.old report.new }
 {
-    if report.len() != 4 {
-        return unreported(report, image::check_counted(bytes));
-    }
-    finish(
-        report,
+    let mut call = |told: &mut [usize]| finish(
+        told,
         image::read(bytes, ends, rays, weights, scales, points).map(counted),
-    )
+    );
+    reported(report, 4, || image::check_counted(bytes), &mut call)
 }
 
 // Writes the image of a network: reports the bytes written.
@@ -319,7 +318,7 @@ pub extern "C" fn vobzeile_write(
         points,
     };
     let mut call = |told: &mut [usize]| finish(told, image::write(&content, out).map(one));
-    reported(report, 1, check_counts(s), &mut call)
+    reported(report, 1, || check_counts(s), &mut call)
 }
 
 // The point lists of a network's rows: reports 0.
@@ -339,5 +338,5 @@ pub extern "C" fn vobzeile_list_points(
         told,
         lists::list_points(m, b, ends, offsets, listed).map(nothing),
     );
-    reported(report, 1, Ok(()), &mut call)
+    reported(report, 1, || Ok(()), &mut call)
 }

@@ -4,7 +4,8 @@ use Rattle.std.specs.Result.{IsErr}
 use Rattle.std.proofs.lemmas.Slice.{overwrites}
 use Rattle.std.proofs.lemmas.List.{drop-drop, take_rest, take_at, drop_at, take-append-le, length-take-le, length-drop, length-append}
 use borrow.Rule.Slice.PartMut.{put_mid}
-use Rattle.stream.specs.Stream.{Overwritten, ReadInto, Stored}
+use Rattle.stream.specs.Stream.{Overwritten, ReadInto}
+use Rattle.stream.specs.inner.Steps.{Stored}
 use Rattle.std.specs.Io.{ReadsAtMost}
 use Rattle.std.specs.Io.KnownBytes.{Consumes, ReadConsumes}
 

@@ -1,7 +1,7 @@
 -- What is promised of reading into a lent buffer. Of a call on standard input std promises only that it answers an error, or how many bytes it
 -- moved: so `ReadInto` does not say which bytes came, or what the input was like. That an error, and nothing else, is a failure is said of one read
--- (`told` of `store`), and in the words of std's own clause of a reader whose bytes are known (`bytes` of `read_once`).
-use Rattle.std.specs.Prelude.{ℕ, ◌+◌, ◌≤◌, ◌≡◌, List, ◌++◌, length, take, drop, Result, Ok, Err}
+-- (`told` of `store`, specs/inner), and in the words of std's own clause of a reader whose bytes are known (`bytes` of `read_once`).
+use Rattle.std.specs.Prelude.{ℕ, ◌+◌, ◌≤◌, ◌≡◌, List, length, take, drop, Result, Ok, Err}
 
 -- of a buffer that held `old`, all but k bytes from place p on is as it was
 pub record Overwritten (p k : ℕ) (old new : List ℕ) : Type 0 where
@@ -14,8 +14,3 @@ pub record Overwritten (p k : ℕ) (old new : List ℕ) : Type 0 where
 unfoldable pub ReadInto : {E : Type 0} → Result ℕ E → (old new : List ℕ) → Type 0
 ReadInto (Ok n) old new = Overwritten 0 n old new
 ReadInto (Err _) old new = length new ≡ length old
-
--- what one read leaves of a buffer that held `old`, by its answer: the k bytes that it gave at the front, and the rest as it was; a failure changes nothing
-abbrev pub Stored : {E : Type 0} → Result ℕ E → (chunk old new : List ℕ) → Type 0
-Stored (Ok k) chunk old new = (k ≤ length chunk) × (k ≤ length old) × (new ≡ take k chunk ++ drop k old)
-Stored (Err _) chunk old new = new ≡ old

@@ -8,12 +8,14 @@
 ghost use Rattle.std.specs.Prelude.{◌≡◌, ◌≤◌, length, take};
 ghost use Rattle.std.specs.Result.{IfOk, IsErr};
 ghost use Rattle.std.specs.Io.KnownBytes.{Appends, ReadConsumes};
-ghost use Rattle.stream.specs.Stream.{ReadInto, Stored};
+ghost use Rattle.stream.specs.Stream.{ReadInto};
+ghost use Rattle.stream.specs.inner.Steps.{Stored};
 
 use std::io;
 use std::io::{Read, Write};
 
-// What a read answered, and where it is so many bytes, those at the front of buf. An error, and nothing else, is a failure; a failure changes nothing.
+// Puts the bytes that a read gave at the front of buf, and hands on what the read answered: an error, and nothing else, is a failure. A failure changes
+// nothing.
 fn store(answer: io::Result<usize>, chunk: &[u8], buf: &mut [u8]) -> io::Result<usize>
     requires { IfOk answer (λ n. (n ≤ length chunk.now) × (n ≤ length buf.old)) }
     ensures told { result ≡ answer }
